@@ -61,7 +61,7 @@ class Imports(NamedTuple):
 
 
 def is_own(path: str) -> bool:
-    """Whether a file is the project's."""
+    """Returns whether a file is the project's."""
     return path.startswith("crates/")
 
 
@@ -71,7 +71,7 @@ def is_code(path: str) -> bool:
 
 @functools.lru_cache(None)
 def library() -> str:
-    """The folder of the toolchain's libraries."""
+    """Returns the folder of the toolchain's libraries."""
     printed = subprocess.run(["rt", "doc"], capture_output=True, text=True, check=True)
     return os.path.join(os.path.dirname(printed.stdout.strip()), "rattle")
 
@@ -101,7 +101,7 @@ def file_of(page: str) -> Optional[str]:
 
 
 def by_defaults(text: str) -> str:
-    """A file of `csv` whose settings are its defaults."""
+    """Returns a file of `csv` with its default settings inserted."""
     if "\ndefault_config = " in text and library_words.CONFIG not in text:
         sys.exit("tools/pages-to-read: csv has other defaults than tools/library_words.py")
     for found, put in library_words.DEFAULTS:
@@ -111,7 +111,7 @@ def by_defaults(text: str) -> str:
 
 @functools.lru_cache(None)
 def pieces(path: str) -> List[Piece]:
-    """The parts of a file, in its order."""
+    """Returns the parts of a file, in order."""
     text = shared.read(path)
     if not is_own(path) and path.startswith(os.path.join(library(), "csv", "")):
         text = by_defaults(text)
@@ -204,7 +204,7 @@ def code_imports(path: str) -> Dict[str, List[str]]:
 
 
 def find_in_code(here: str, way: List[str]) -> Optional[Piece]:
-    """What a path of Rust names from a file of a crate, if the project declares it."""
+    """Returns what a path of Rust means in a file of a crate, if the project declares it."""
     crate = here.split("/src/")[0] if way[0] == "crate" else f"crates/{way[0]}"
     path = next(filter(os.path.isfile, (f"{crate}/src/{'/'.join(part)}.rt" for part in (way[1:-1], ["lib"]))), None)
     if not path:
@@ -244,7 +244,7 @@ def bound(piece: Piece) -> Set[str]:
 
 
 def is_data(piece: Piece) -> bool:
-    """Whether it declares variants, whose names are no variables."""
+    """Returns whether it declares variants, whose names are no variables."""
     return DATA.search(piece.text) is not None
 
 
@@ -273,7 +273,7 @@ def used(piece: Piece) -> Dict[str, Optional[Piece]]:
     return {name: other for name, other in found.items() if name not in piece.names}
 
 
-# The library's words that the list describes, and no definition.
+# The library's words that the list describes, and that no definition has.
 LISTED = {word for words in library_words.LIBRARY for word in words}
 
 
@@ -313,7 +313,7 @@ def ordered(roots: List[Piece]) -> List[Piece]:
 
 
 def closure(roots: List[Piece]) -> Set[Piece]:
-    """The same in no order."""
+    """Returns the same in no order."""
     found: Set[Piece] = set()
     more = list(roots)
     while more:
@@ -355,12 +355,12 @@ def unmet(parts: Dict[str, List[Piece]]) -> Iterator[str]:
 
 
 def roots_of(part: str) -> List[Piece]:
-    """The contracts of a part."""
+    """Returns the contracts of a part."""
     return [piece for path, name in PARTS[part] for piece in pieces(path) if name in piece.names]
 
 
 def lines_of(some: List[Piece]) -> int:
-    """Returns how many lines the parts have, without blank ones."""
+    """Returns the number of lines of the parts, without blank lines."""
     return sum(bool(line.strip()) for piece in some for line in piece.text.split("\n"))
 
 
@@ -388,7 +388,7 @@ class Book(NamedTuple):
 
 
 def book_of(parts: List[str]) -> Book:
-    """The text of some parts, in their order."""
+    """Returns the text of some parts, in order."""
     printed: Dict[str, List[Piece]] = {}
     for part in parts:
         before = {piece for some in printed.values() for piece in some}
@@ -424,7 +424,8 @@ def contents_of(contract: Piece, numbers: Dict[Piece, int], printed: Set[Piece])
 
 
 def text_of(book: Book) -> Iterator[str]:
-    """The book as lines: the contracts with their contents, what signs and words mean, and then each part, with the path of each page above it."""
+    """Returns the book as lines: the contracts with their contents, what symbols and words mean, and then each part below the path of its
+    file."""
     sections = book.sections()
     numbers = {piece: number for number, (_, some) in enumerate(sections, 1) for piece in some}
     yield f"# What is promised\n\n{library_words.CONTENTS}"

@@ -14,7 +14,7 @@ MOST = {"plan": 1 << 20, "file": 1 << 28, "input": 1 << 28}
 # The most bytes of a path that a system accepts; the library rejects a longer one itself.
 LONGEST_PATH = 4_095
 
-# Few calls are made for a file, and +1 for each of this many bytes.
+# A file takes a few calls, and one for each of this many bytes.
 CALLS, LARGE = 6, 32_768
 
 Row = Dict[str, str]
@@ -84,7 +84,7 @@ def option(arguments: List[str], name: str, default: str = "") -> Tuple[str, Lis
 
 
 def command_of(ran: Ran) -> str:
-    """Which command of the page a run is."""
+    """Returns the command of the page that a run is."""
     before = ran.arguments[:ran.arguments.index("--")] if "--" in ran.arguments else ran.arguments
     is_shown = {"-h", "--help", "-V", "--version", "help"} & set(before)
     if is_shown or ran.status == 2 and not ran.line.startswith("settings"):
@@ -93,7 +93,7 @@ def command_of(ran: Ran) -> str:
 
 
 def may_of(ran: Ran, files: List[Row]) -> May:
-    """What a run may use, by the first table."""
+    """Returns what a run may use, by the first table."""
     command = command_of(ran)
     row = next(row for row in files if row["command"] == command)
     arguments = list(ran.arguments[0 if ran.is_thin else 1:])
@@ -121,12 +121,12 @@ def may_of(ran: Ran, files: List[Row]) -> May:
 
 
 def cut_at(given: bytes) -> int:
-    """At how many lines the input of the pipe form is cut, which is how many zone files it has."""
+    """Returns the number of lines at which the pipe form's input is cut, which is its number of zone files."""
     return len(re.findall(rb"(?m)^--\r?$", given))
 
 
 def outcome_of(ran: Ran, may: May, outcomes: List[Row]) -> Row:
-    """The row of the second table that fits a run."""
+    """Returns the row of the second table that fits a run."""
     if not may.inputs and not may.is_stream:
         return dict.fromkeys(SOME, "none")
     for row in outcomes:
@@ -150,7 +150,7 @@ class Judged:
         self.inputs, self.outputs = opened[:len(self.may.inputs)], opened[len(self.may.inputs):]
 
     def findings(self) -> Iterator[str]:
-        """What the run did that the page does not have."""
+        """Returns what the run did that the page does not have."""
         yield from self.record.strange
         if not self.outcome:
             yield f"status {self.ran.status}, {self.ran.line!r}: no outcome of the page"
@@ -165,7 +165,7 @@ class Judged:
         yield from self.of_outcome()
 
     def of_paths(self) -> Iterator[str]:
-        """Paths, their order and modes."""
+        """Checks paths, their order and modes."""
         for used, wanted, mode in [(self.inputs, self.may.inputs, INPUT), (self.outputs, self.may.outputs, OUTPUT)]:
             for n, file in enumerate(used):
                 if n >= len(wanted):
@@ -182,7 +182,7 @@ class Judged:
         yield from zip(("read", "write", "write"), ("input", "output", "errors"), self.record.streams)
 
     def of_each(self) -> Iterator[str]:
-        """What is done with one file or stream."""
+        """Checks what is done with one file or stream."""
         for what, name, used in self.named():
             for n, call in enumerate(used.calls, 1):
                 if call.name != what:
@@ -200,7 +200,7 @@ class Judged:
             yield "standard input is read"
 
     def of_order(self) -> Iterator[str]:
-        """The order: inputs, threads, outputs, printing."""
+        """Checks the order: inputs, threads, outputs, printing."""
         record = self.record
         ends = {call.thread: call.end for call in record.calls if call.name == "exit"}
         reads = [call.end for used in [*self.inputs, record.streams[0]] for call in used.calls]
@@ -217,7 +217,7 @@ class Judged:
             yield "something is printed before each file is closed"
 
     def of_reading(self) -> Iterator[str]:
-        """The order in which files are opened, read and closed; who reads them."""
+        """Checks the order in which files are opened, read and closed, and who reads them."""
         pairs = list(zip(self.inputs, self.inputs[1:]))
         is_check = self.may.command == "pitc check"
         for one, following in pairs if is_check else pairs[:1]:
@@ -236,7 +236,7 @@ class Judged:
             yield "a zone file is read by none of the threads that are started last"
 
     def of_threads(self) -> Iterator[str]:
-        """Checks how many threads there are, and that none remains."""
+        """Checks the number of threads, and that none remains."""
         record, count = self.record, len(self.record.threads)
         wanted = {"all": [self.may.threads], "none": [0], "some": range(self.may.threads + 1)}[self.outcome["starts threads"]]
         if count not in wanted:
@@ -245,7 +245,7 @@ class Judged:
             yield "a thread remains"
 
     def of_memory(self) -> Iterator[str]:
-        """Memory that is requested, used or not."""
+        """Checks the memory that is requested, used or not."""
         most = self.most_memory()
         if self.record.memory.peak > most:
             yield f"{self.record.memory.peak} bytes of memory, of at most {most}"
@@ -267,7 +267,7 @@ class Judged:
         return sum(count * self.cost(what) for what, count in counts.items())
 
     def cost(self, what: str) -> int:
-        """The bytes of this command for each of these, by the third table."""
+        """Returns the bytes of this command for each of these, by the third table."""
         rows = (row for row in self.costs if row["for each"] == what)
         return sum(int(row["bytes"].replace(",", "")) for row in rows if row["of"] == "any command" or self.may.command in row["of"].split(", "))
 
@@ -307,7 +307,7 @@ class Judged:
                 yield f"{len(text)} bytes printed, {stream.total} of them written"
 
     def of_outcome(self) -> Iterator[str]:
-        """Checks how many files are read and created, of those that the outcome has, and whether each is complete."""
+        """Checks the numbers of the outcome's files that are read and created, and whether each is complete."""
         reads, creates = self.outcome["reads"], self.outcome["creates"]
         wanted = {"all": len(self.may.inputs), "opened": len(self.may.inputs), "first": 1, "none": 0}
         if len(self.inputs) != wanted.get(reads, len(self.inputs)):

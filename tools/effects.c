@@ -1,10 +1,10 @@
-/* Answers a call of a program by an error, or makes the program a wrong one, for tools/effects.
+/* Returns an error for a call of a program, or makes the program a mutant, for tools/effects.
  *
- * FAULT=CALL:N:CODE answers the Nth call of open, read, write, close or pthread_create by this error;
- * the code 0 takes one byte of a read or a write. A file is closed though its close is answered by an
- * error. The trace shows a fault by a write to the descriptor TOLD, which is never open.
+ * FAULT=CALL:N:CODE returns this error for the Nth call of open, read, write, close or pthread_create;
+ * the code 0 reads or writes a single byte. A close that returns an error still closes the file. The
+ * trace shows an error by a write to the descriptor TOLD, which is never open.
  *
- * WRONG=MODE makes around these calls what a wrong body of the code that no contract binds could do. */
+ * WRONG=MODE does around these calls what a wrong body of code without a contract could do. */
 #define _GNU_SOURCE
 #include <arpa/inet.h>
 #include <dlfcn.h>
@@ -53,7 +53,7 @@ static long fail_at(const char *call, int fd) {
 
 #define NEXT(name) static __typeof__(name) *next; if (!next) next = dlsym(RTLD_NEXT, #name)
 
-/* The calls, of which one fails. */
+/* The calls, one of which fails. */
 static int open_or_fail(const char *path, int flags, mode_t rights) {
     NEXT(open);
     return is_hit("open") ? fail("openat", path) : next(path, flags, rights);
@@ -89,7 +89,7 @@ static int start_or_fail(pthread_t *thread, const pthread_attr_t *how, void *(*b
     return code;
 }
 
-/* The same in a wrong program. */
+/* The same in a mutant. */
 int open(const char *path, int flags, ...) {
     mode_t rights = 0;
     int creates = flags & O_CREAT;

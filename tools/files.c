@@ -1,9 +1,9 @@
 /* Refuses the Nth of the calls by which a process opens, writes, syncs, closes, links and renames the
  * files of a folder, or raises a signal before it, for tools/refused-files.
  *
- * `refuse_at` says which call, which signal (0 for a refusal), the folder, and a descriptor on which
- * the name of that call is told. Standard output is one of the files. `refuse_more` says whether all
- * calls behind the Nth are refused too, and whether the folder's file system has no hard links. */
+ * `refuse_at` sets the call, the signal (0 for a refusal), the folder, and a descriptor that gets the
+ * name of the call. Standard output is one of the files. `refuse_more` sets whether all later calls
+ * are also refused, and whether the folder's file system has no hard links. */
 #define _GNU_SOURCE
 #include <dlfcn.h>
 #include <errno.h>
@@ -32,7 +32,7 @@ void refuse_more(int behind, int links) {
     no_links = links;
 }
 
-/* How many calls were counted since. */
+/* Returns the number of calls since refuse_at. */
 long calls_made(void) {
     return calls;
 }
@@ -44,7 +44,7 @@ static ssize_t plainly(int fd, const char *text) {
     return next(fd, text, strlen(text));
 }
 
-/* Whether this call is refused; `code` is what the system answers then. */
+/* Returns whether this call is refused; `code` is then the error. */
 static int refused(const char *what, int code) {
     if (!nth || ++calls < nth || (calls > nth && !all_behind)) return 0;
     if (calls == nth) plainly(told, what);

@@ -13,13 +13,13 @@ CAPACITIES, USUAL = [1, 2, 7, 64, 65, 1000, 4095, 4096], 64
 
 
 def sizes_of(program, library, trial):
-    """How many allocations of each size a run makes."""
+    """Returns the number of allocations of each size in a run."""
     _, printed = malloc.result(program, library, trial)
     return collections.Counter(size for word, size in printed if word == b"size")
 
 
 def is_lane(sizes, width):
-    """Returns whether each capacity has an allocation of this number of bytes per position that no other has."""
+    """Returns whether each capacity has an allocation of this number of bytes per position that no other capacity has."""
     pairs = itertools.permutations(CAPACITIES, 2)
     return all(sizes[one][width * one] > sizes[other][width * one] for one, other in pairs)
 

@@ -1,6 +1,6 @@
-"""What the words and signs mean that the text of tools/book.py has no definition of."""
+"""The meaning of words and symbols without a definition in the text of tools/book.py."""
 
-# What the contents are about, and how they are to be read.
+# The subject of the contents, and how to read them.
 CONTENTS = """A zone file is a CSV text with the columns x, y, z, tonnes and grade; the file of number i has the blocks of the plan's zone i. For
 each file a thread, its reader, takes the bytes of a feed and puts the rows into a queue, the lane. Valuers, threads too, take them
 out, and value each block at each destination. Sinks take the texts, which depend on none of these threads.
@@ -8,7 +8,7 @@ out, and value each block at each destination. Sinks take the texts, which depen
 Each contract stands here with its clauses. Behind a word stands the number of the section that defines it; below a clause each of its
 words has those that it uses. A word that has no number is told in `How to read this`, or is one of the library."""
 
-# What each part of the text is about.
+# The subject of each part of the text.
 PARTS = {
     "compile": "The command compile: an opener gives the feed of a file by its path, and a run writes the five texts into sinks.",
     "thin": "The program pitc_thin: the same zone files and threads, and one sink, which takes the precedence file with fewer arcs.",
@@ -20,7 +20,7 @@ PARTS = {
              "read\nearlier. `out` is standard output, `err` standard error.",
 }
 
-# Of the language of contracts and definitions.
+# Words of the language of contracts and definitions.
 LANGUAGE = {
     "A → B": "functions from A to B, or that A implies B; `(x : A) → B`: for each x of A; `{X : Type 0}`: omitted if it is clear",
     "A × B": "pairs, or that both hold; `(x : A) × B`: that there is such an x; `p.0`, `p.1`, `p.2`: the parts of `(a, b)` or `(a, b, c)`",
@@ -50,7 +50,7 @@ LANGUAGE = {
     "Threads, Wait, Send, Sync, Drop": "what starts threads and lets them wait, what threads may share, and what is freed",
 }
 
-# Of the library, by the words of one sentence.
+# Words of the library, grouped by their sentence.
 LIBRARY = {
     ("ℕ", "zero", "suc"): "the natural numbers: 0, and n + 1 for each number n",
     ("◌+◌", "◌*◌", "◌^◌"): "sum, product and power of natural numbers",
@@ -117,10 +117,10 @@ LIBRARY = {
     ("min-le_right", "suc-le-suc_iff"): "proofs: min n m ≤ m; and m ≤ n exactly if m + 1 ≤ n + 1",
 }
 
-# The defaults of `csv`, as its page has them.
+# The defaults of `csv`, as in its definition file.
 CONFIG = "{ delimiter = 44; quote = 34; escape = None; double_quote = true; quoting = true; comment = None; terminator = term.CRLF }"
 
-# Its pages by them: without the settings, the types that hold each of them, and what no default refers to.
+# Changes that insert the defaults into the definitions of `csv`: settings, their types and unused parts go.
 DEFAULTS = [
     (r"(?m)^(?:abbrev pub is_byte .*|is_byte .*|\w+ \(term\.Any.*|\w+ (?:cfg )?st\.In(?:Escape|Comment).*|    In(?:Escape|Comment),)\n", ""),
     (r"records cfg xs = ", "records default_config xs = "),
@@ -130,5 +130,5 @@ DEFAULTS = [
     (r"cfg\.quote\b", "34"),
 ]
 
-# The words and signs of the language, as they stand in a definition.
+# The words and symbols of the language in definitions.
 SIGNS = set("→ × λ ¬ ⊥ = _ ← pub abbrev unfoldable record data where module let in do Type Unit ℓ κ".split())

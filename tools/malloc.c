@@ -1,8 +1,8 @@
-/* A malloc that answers null at its call of the number REFUSE_NTH, for tools/malloc.py.
+/* A malloc that returns null at its call with the number REFUSE_NTH, for tools/malloc.py.
  *
- * It tells on descriptor 199, a line each: the size that it refused, as `refused`, or as `within`
- * where the C library starts a thread. Where the number is 0 it tells the size of each allocation,
- * and where a thread is started what was allocated last. It has no header, so that a compiler alone
+ * It reports on descriptor 199, a line each: the size that it refused, as `refused`, or as `within`
+ * if the C library starts a thread. If the number is 0, it reports the size of each allocation, and
+ * the size of the last allocation before a thread starts. It includes no header, so a compiler alone
  * is enough. */
 typedef unsigned long size_t;
 extern void *__libc_malloc(size_t), *__libc_realloc(void *, size_t);

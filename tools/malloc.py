@@ -27,7 +27,7 @@ def compiler():
 
 
 def build(folder, name="malloc"):
-    """The library of this malloc, or of another file of tools/."""
+    """Builds the library of this malloc, or of another file of tools/, and returns its path."""
     library, source = os.path.join(folder, f"{name}.so"), os.path.join(TOP, "tools", f"{name}.c")
     arguments, by = ["-shared", "-fPIC", "-O1", "-nostdlib", "-fno-builtin", "-o", library, source], compiler()
     if by is None:

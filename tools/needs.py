@@ -1,4 +1,4 @@
-"""What pages, recipes and tests call besides the toolchain, and which Debian packages have it."""
+"""The programs that pages, recipes and tests call besides the toolchain's, and the Debian packages that have them."""
 import os
 import re
 import shutil
@@ -49,11 +49,11 @@ NEEDS = [
 # Modules of Python that pit-tools needs, and with which `./try planner` runs; Debian's packages begin with python3-.
 OF_PIT_TOOLS = ["pandas", "numpy", "scipy", "matplotlib", "openpyxl"]
 
-# Modules that one interpreter must have, all of them. By ensurepip `python3 -m venv` makes the environment in which tools/archive tries the
-# wheel; by nbclient and ipykernel tools/recipes runs notebooks; by shtab tools/pit-tools-pages makes completions.
+# Modules that one interpreter must have, all of them. `python3 -m venv` needs ensurepip to make the environment in which tools/archive
+# tries the wheel; tools/recipes runs notebooks by nbclient and ipykernel; tools/pit-tools-pages makes completions by shtab.
 MODULES = [*OF_PIT_TOOLS, "pytest", "distributed", "hypothesis", "ezdxf", "meshio", "tqdm", "nbclient", "ipykernel", "ensurepip", "shtab"]
 
-# What no package has.
+# Devices, which no package has.
 DEVICES = ["/dev/full"]
 
 LOOK = "import importlib.util as u, sys; print(*[name for name in sys.argv[1:] if not u.find_spec(name)])"
@@ -65,12 +65,12 @@ def is_strict() -> bool:
 
 
 def is_there(need: Need) -> bool:
-    """Whether a program is in the PATH, or is the toolchain's C compiler."""
+    """Returns whether a program is in the PATH, or is the toolchain's C compiler."""
     return any(map(shutil.which, need.names)) or "cc" in need.names and malloc.compiler() is not None
 
 
 def interpreters() -> List[str]:
-    """Returns each python3 once, of the PATH in its order, and the system's."""
+    """Returns each python3 once: those of the PATH in order, and the system's."""
     folders = [*os.environ.get("PATH", "").split(os.pathsep), "/usr/bin"]
     paths = (os.path.join(folder or ".", "python3") for folder in folders)
     return list(dict.fromkeys(path for path in paths if os.access(path, os.X_OK)))
@@ -83,7 +83,7 @@ def missing_of(python: str, modules: List[str]) -> List[str]:
 
 
 def first_with_modules(modules: Sequence[str] = tuple(MODULES)) -> Tuple[Optional[str], Dict[str, List[str]]]:
-    """Returns the first interpreter that has all these modules, and what those before it do not have."""
+    """Returns the first interpreter that has all these modules, and the modules that earlier ones do not have."""
     missing = {}
     for python in interpreters():
         missing[python] = missing_of(python, list(modules))
@@ -146,7 +146,7 @@ def packages() -> List[str]:
 
 
 def packages_of_planner() -> List[str]:
-    """The packages of Debian with which `./try planner` runs."""
+    """Returns the packages of Debian with which `./try planner` runs."""
     return ["g++", *packages_of(OF_PIT_TOOLS)]
 
 

@@ -10,12 +10,12 @@ import re
 import subprocess
 import sys
 
-# The pages that are notebooks too.
+# The pages that are also notebooks.
 PAGES = ["docs/planners.md", "docs/solvers.md"]
 
 BLOCK = re.compile(r"(?ms)^```sh([^\n]*)\n(.*?)^```\n(?:\s*```text\n(.*?)^```\n)?")
 
-# The first cell of each: a cell that begins with %%shell is read by one shell, which starts in the folder above the pages.
+# The first cell of each notebook. One shell reads all cells that begin with %%shell; it starts in the folder above the pages.
 SHELL = '''\
 # Cells that begin with %%shell are commands. All are read by one shell; it begins in the folder that has examples/.
 import pathlib
@@ -62,7 +62,7 @@ def code_cell(source, printed=""):
 
 
 def notebook_of(page):
-    """The notebook of a page's text, the same for the same text."""
+    """Returns the notebook of a page's text, the same for the same text."""
     cells, end = [code_cell(SHELL)], 0
     for block in BLOCK.finditer(page):
         if page[end:block.start()].strip():

@@ -53,7 +53,7 @@ def refusal_wanted(trial: Trial) -> Optional[Made]:
 
 
 def gathered(sent: List[List[Made]], valuers: int = VALUERS) -> Dict[str, Any]:
-    """Returns what went through the lane: each message taken in turn, and then one Stop by each valuer."""
+    """Returns the messages that passed the lane: each taken in order, and then one Stop by each valuer."""
     messages = [message for file in sent for message in file]
     took = [[*messages[taker::valuers], Made("Stop")] for taker in range(valuers)]
     return {"capacity": CAPACITY, "sent": chain(map(chain, sent)), "took": chain(map(chain, took))}
@@ -69,7 +69,7 @@ def right(trial: Trial, sent: List[List[Made]]) -> Optional[Outcome]:
 
 
 def cut_off(outcome: Outcome, place: int, failures: int, refusal: Made) -> Outcome:
-    """The same, cut off in the middle of a text."""
+    """Returns the same, cut off in the middle of a text."""
     _, text, _ = outcome.sinks[place]
     half = len(text) // 2
     return Outcome(Made("Err", (refusal,)), (*outcome.sinks[:place], (True, text[:half], failures), *UNTOUCHED[place + 1 :]), missing=text[half:])
@@ -94,7 +94,7 @@ def with_took(outcome: Outcome, change) -> Outcome:
 
 
 def altered(outcome: Outcome) -> Iterator[Tuple[str, Outcome]]:
-    """Outcomes that differ from a right one in one thing, each with what it is."""
+    """Yields outcomes that differ from a right one in one thing, each with this thing."""
     settings = [Made("Settings", (Made(kind),)) for kind in ("Files", "Valuers", "Capacity", "Destinations")]
     same = Made("Same", tuple({"file": 0, "row": row} for row in (2, 3)))
     for other in [*settings, same]:

@@ -40,7 +40,7 @@ def printed_by(recipes, top, folder, environment=None):
         piece = os.path.join(folder, str(number))
         shared.write(piece, recipe.commands)
         script += f"{{ . '{piece}'; }} > '{piece}.told' 2>&1\necho $? > '{piece}.status'\n"
-    # A writer that nobody reads from would wait for ever.
+    # A writer without a reader would wait forever.
     jobs = os.path.join(folder, "jobs")
     script += f"jobs -p > '{jobs}'\n[ ! -s '{jobs}' ] || kill $(cat '{jobs}') 2> /dev/null\n"
     shell = subprocess.Popen(["sh", "-c", script], stdin=subprocess.DEVNULL, env=environment)

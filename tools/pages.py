@@ -15,7 +15,7 @@ from typing import Any, Callable, Dict, Iterator, List, NamedTuple, Optional, Tu
 import shared
 
 TOKEN = re.compile(r'"[^"]*"|[(){};,]|\.\w+(?<=[)\w])|[^\s(){};,"]+')
-# How closely operators bind, and those that bind to the right.
+# The precedences of operators, and the operators that associate to the right.
 BINDING = {"^": 80, "*": 70, "/": 70, "%": 70, "*ℤ": 70, "+": 65, "-": 65, "+ℤ": 65, "-ℤ": 65, "∷": 60, "++": 55, "==": 50, "&&": 35, "||": 30,
            "≡": 20, "≢": 20, "<": 20, "≤": 20, "×": 15, "⊎": 12, ">>=": 10, "↔": 8, "→": 5}
 TO_THE_RIGHT = {"∷", "^", "×", "⊎", "→"}
@@ -23,16 +23,16 @@ SIGNS = {"+": "({} + {})", "*": "({} * {})", "^": "({} ** {})", "-": "minus({}, 
          "+ℤ": "({} + {})", "-ℤ": "({} - {})", "*ℤ": "({} * {})", "∷": "({}, {})", "++": "joined({}, {})", "==": "({} == {})",
          "&&": "({} and {})", "||": "({} or {})", "≡": "same({}, {})", "≢": "(not same({}, {}))", "<": "({} < {})", "≤": "({} <= {})",
          "×": "({} and {})", "⊎": "({} or {})", "↔": "({} == {})", "→": "(not {} or {})"}
-# The types of fields that name a value of which a statement speaks; its other fields are statements.
+# The types of fields that name a value to which a statement refers; its other fields are statements.
 DATA = {"ℕ", "List", "Option", "Bool"}
-# The constructors of numbers and truth values: as a value, as a test, and what it holds.
+# The constructors of numbers and truth values: as a value, as a test, and the value inside.
 NUMBERS = {"zero": ("0", "{} == 0", ""), "suc": ("({} + 1)", "{} > 0", "{} - 1"), "pos": ("{}", "{} >= 0", "{}"),
            "negsuc": ("(-{} - 1)", "{} < 0", "-{} - 1"), "true": ("True", "{} is True", ""), "false": ("False", "{} is False", "")}
 LIBRARY_VARIANTS = {"Some", "None", "Ok", "Err"}
 
 
 class Made(NamedTuple):
-    """A variant with what it holds."""
+    """A variant with its values."""
 
     tag: str
     held: Tuple[Any, ...] = ()
@@ -45,12 +45,12 @@ class Function:
         self.count, self.call, self.held = count, call, held
 
 
-# A proof that a field carries: what it is made of is of no matter.
+# A proof in a field: its content does not matter.
 PROOF = Made("proof")
 
 
 def applied(function: Any, *arguments: Any) -> Any:
-    """A function or a variant with these arguments more."""
+    """Applies a function or a variant to further arguments."""
     if function is PROOF:
         return PROOF
     if isinstance(function, Made):
@@ -63,7 +63,7 @@ def applied(function: Any, *arguments: Any) -> Any:
 
 
 def chain(values) -> Tuple:
-    """A list of the pages."""
+    """Returns values as a list of the definitions."""
     found: Tuple = ()
     for value in reversed(list(values)):
         found = (value, found)
@@ -71,7 +71,7 @@ def chain(values) -> Tuple:
 
 
 def each(values: Tuple) -> Iterator[Any]:
-    """The elements of a list of the pages."""
+    """Yields the elements of a list of the definitions."""
     while values:
         head, values = values
         yield head
@@ -163,7 +163,7 @@ class Reader:
         return words[:1] == ["("] and ":" in words and all(re.fullmatch(r"\w+", word) for word in words[1 : words.index(":")])
 
     def quantified(self):
-        """Reads what is said of each, or of some, value of these types."""
+        """Reads a statement about each, or some, value of these types."""
         found = []
         while self.is_bound():
             self.take("(")
@@ -311,11 +311,11 @@ class Pages:
                                       "rest": rest, "with_fields": with_fields, "field": field, "chain": chain, "same": self.same, "values_of": self.values_of}
 
     def values_of(self, kind: str):
-        """The values of a type on which statements are tried."""
+        """Returns the values of a type on which statements are tried."""
         return self.trying[kind]
 
     def same(self, one: Any, other: Any) -> bool:
-        """Whether two values are one; functions are of a text's name."""
+        """Returns whether two values are equal; functions take a text's name."""
         if not isinstance(one, Function) or one is other:
             return one == other
         return all(applied(one, name) == applied(other, name) for name in self.values_of("TextName"))
@@ -327,7 +327,7 @@ class Pages:
         return self.ready[page, name]
 
     def call(self, page: str, name: str, *arguments: Any) -> Any:
-        """A function of a page by the short name of its page, as `zone_csv.Row`, of these arguments."""
+        """Calls a function of a definition file, given by its short name such as `zone_csv.Row`, with these arguments."""
         crate, _, rest_of_it = page.partition(".")
         found = self.word(f"Rattle.{crate}.specs.{rest_of_it}", name)
         return applied(found, *arguments) if arguments else found
@@ -442,7 +442,7 @@ class Clause:
                 self.steps.append(f"{names[head]} = {value}")
 
     def python(self, term, names: Dict[str, str]) -> str:
-        """A term as an expression of Python."""
+        """Returns a term as an expression of Python."""
         return getattr(self, "as_" + term[0])(names, *term[1:])
 
     def as_number(self, names, number):
@@ -484,7 +484,7 @@ class Clause:
         return self.tried("any", names, bound, said)
 
     def tried(self, how, names, bound, said):
-        """Returns what is said of values of these types, of all or of any."""
+        """Returns a test of a statement about all, or any, values of these types."""
         inner = dict(names)
         loops = []
         for name, kind in bound:
@@ -536,7 +536,7 @@ class Clause:
 
 
 class Statement(Clause):
-    """A statement by its fields, of which some name a value that the others speak of."""
+    """A statement by its fields, some of which name a value that others refer to."""
 
     def __init__(self, pages: Pages, page: str, parameters: List[str], fields: List[List[str]]):
         self.pages, self.page, self.steps = pages, page, []

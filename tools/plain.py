@@ -1,7 +1,7 @@
 #!/usr/bin/env python3
-"""The texts of a plan and its zone files, by a plain computation.
+"""The files of the instance of a plan and its zone files, by a simple computation.
 
-    tools/plain.py BASE PLAN ZONE..         writes them at a base
+    tools/plain.py BASE PLAN ZONE..         writes them to the files of BASE
 
 It is written from docs/formats.md alone, in another language than pitc. It counts in integers, tests all pairs of blocks for cones, and
 knows no error except a repeated block. tools/random-models and the tables of tools/rows compare the results of a built pitc with it.
@@ -10,6 +10,7 @@ import csv
 import io
 import sys
 from decimal import Decimal
+from fractions import Fraction
 from typing import NamedTuple
 
 import shared
@@ -57,7 +58,7 @@ def plan_of(text):
 
 
 def worth(kind, cells, block):
-    """What a block is worth at a destination, in cents."""
+    """Returns the worth of a block at a destination, in cents."""
     if kind == "dump":
         return -block.mass * int(cells[0]) // 1000
     if kind == "mill":
@@ -72,10 +73,9 @@ def worth(kind, cells, block):
     return (metal * price - block.mass * cost * 10**12) // 10**15
 
 
-def is_above(plan, lower, upper):
-    """Returns whether a block must wait for an upper one."""
-    (east, west, north, south), benches = plan["zones"][lower.zone]
-    dz, dy, dx = (up - low for up, low in zip(upper.place, lower.place))
+def is_inside(plan, zone, dz, dy, dx):
+    """Returns whether a block this far from one of a zone is a predecessor of it."""
+    (east, west, north, south), benches = plan["zones"][zone]
     if not 1 <= dz <= benches:
         return False
     (px, qx), (py, qy) = east if dx > 0 else west, north if dy > 0 else south
@@ -84,7 +84,7 @@ def is_above(plan, lower, upper):
 
 
 def blocks_of(plan, files):
-    """The blocks of the files in order, or the line of the first repetition."""
+    """Returns the blocks of the files in order, or the line of the first repetition."""
     blocks, seen = [], {}
     for zone, text in enumerate(files):
         for number, row in enumerate(csv.DictReader(io.StringIO(text)), start=2):
@@ -105,9 +105,70 @@ def block_line(number, block):
     return f"{number} {indices} {tonnes(block)} {shortest(block.grade)} {block.zone}"
 
 
-def prec_line(plan, blocks, number, block):
-    above = [other for other, upper in enumerate(blocks) if is_above(plan, block, upper)]
-    return " ".join(map(str, [number, len(above), *above]))
+class Inside(dict):
+    """Whether a block this far along x is a predecessor, each distance tried once."""
+
+    def __init__(self, *where):
+        self.where = where
+
+    def __missing__(self, dx):
+        self[dx] = is_inside(*self.where, dx)
+        return self[dx]
+
+
+def lists_of(plan, blocks):
+    """Returns the predecessors of each block: all blocks are tried."""
+    rows, known, lists = {}, {}, []
+    for number, block in enumerate(blocks):
+        rows.setdefault(block.place[:2], []).append((number, block.place[2]))
+    for (z, y, x), zone, *_ in blocks:
+        above = []
+        for (other_z, other_y), row in rows.items():
+            where = zone, other_z - z, other_y - y
+            inside = known.get(where) or known.setdefault(where, Inside(plan, *where))
+            above += [number for number, other_x in row if inside[other_x - x]]
+        lists.append(above)
+    return lists
+
+
+def mask_of(blocks):
+    """Blocks as the bits of a number."""
+    return sum(1 << block for block in blocks)
+
+
+def retained_of(lists):
+    """Returns for each list the blocks that are predecessors of no other one of it."""
+    taken, retained = list(map(mask_of, lists)), []
+    for one in lists:
+        after = 0
+        for other in one:
+            after |= taken[other]
+        retained.append([c for c in one if not after >> c & 1])
+    return retained
+
+
+def reaches(lists):
+    """Returns for each block all to which a path of arcs leads."""
+    found = [0] * len(lists)
+    for n in reversed(range(len(lists))):
+        for c in lists[n]:
+            found[n] |= found[c] | 1 << c
+    return found
+
+
+def smallest_of(lists):
+    """Returns the transitive reduction: for each list, the blocks to which no path goes from another one of it."""
+    reached, smallest = reaches(lists), []
+    for one in lists:
+        after = 0
+        for other in one:
+            after |= reached[other]
+        smallest.append([c for c in one if not after >> c & 1])
+    return smallest
+
+
+def prec_text(lists):
+    return "".join(" ".join(map(str, [number, len(one), *one])) + "\n" for number, one in enumerate(lists))
 
 
 def tonnes(block):
@@ -115,7 +176,7 @@ def tonnes(block):
 
 
 def model(plan, kind, objective, coefficients):
-    """The lines of a model file: its header, the values of each block, and its resources."""
+    """Yields the lines of a model file: its header, the values of each block, and its resources."""
     yield from shared.header(
         kind,
         name=plan["name"],
@@ -136,7 +197,7 @@ def model(plan, kind, objective, coefficients):
 
 
 def compiled(text, files):
-    """Returns the texts by their endings, or the line of the refusal."""
+    """Returns the files by their extensions, or the line of the error."""
     plan = plan_of(text)
     blocks = blocks_of(plan, files)
     if isinstance(blocks, str):
@@ -155,13 +216,24 @@ def compiled(text, files):
             for resource, covered in enumerate(covers) if best[number] in covered]
     texts = [
         (block_line(number, block) for number, block in enumerate(blocks)),
-        (prec_line(plan, blocks, number, block) for number, block in enumerate(blocks)),
+        prec_text(lists_of(plan, blocks)).splitlines(),
         model(plan, "UPIT", greatest, []),
         model(plan, "PCPSP", list(map(" ".join, dollars)), pcpsp),
         model(plan, "CPIT", greatest, cpit),
     ]
     whole = ("".join(line + "\n" for line in lines) for lines in texts)
     return dict(zip(shared.ENDINGS, whole))
+
+
+def thinned(text, files):
+    """Returns what pitc_thin prints and writes. If all cones are the same, the transitive reduction is written."""
+    plan = plan_of(text)
+    lists = lists_of(plan, blocks_of(plan, files))
+    retained = retained_of(lists)
+    cones = {(tuple(Fraction(*slope) for slope in slopes), benches) for slopes, benches in plan["zones"]}
+    assert retained == smallest_of(lists) if len(cones) == 1 else reaches(retained) == reaches(lists)
+    arcs, retained_arcs = (sum(map(len, each)) for each in (lists, retained))
+    return f"rows {len(lists)} arcs {retained_arcs} of {arcs}\n", prec_text(retained)
 
 
 def main():

@@ -9,7 +9,7 @@ def escaped(text: str) -> str:
 
 
 def line_of(text: str) -> str:
-    """Returns a line that is no request, even if it begins like one."""
+    """Returns a line that is no request, even if its text begins like one."""
     return re.sub("^[.']", r"\\&\g<0>", text) + "\n"
 
 

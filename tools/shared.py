@@ -1,4 +1,4 @@
-"""What the scripts of tools/ that are written in Python share."""
+"""Shared code of the scripts of tools/ that are written in Python."""
 import argparse
 import functools
 import glob
@@ -13,10 +13,10 @@ from typing import NamedTuple
 
 TOP = os.path.dirname(os.path.dirname(os.path.abspath(__file__)))
 
-# The texts of an instance, by the endings of their files, in the order in which they are written.
+# The files of an instance by their extensions, in the order in which they are written.
 ENDINGS = ["blocks", "prec", "upit", "pcpsp", "cpit"]
 
-# Those that `check` reads, in its order.
+# The files that `check` reads, in its order.
 CHECKED = ["blocks", "prec", "pcpsp", "cpit"]
 
 
@@ -57,7 +57,7 @@ def built(crate, path):
 
 
 def with_program(doc):
-    """The same, if the first argument is a built pitc."""
+    """Returns the same parser, with a built pitc as first argument."""
     parser = parser_of(doc)
     help_of_it = "a built pitc, as crates/pitc/out/pitc, which rt run leaves there"
     parser.add_argument("program", type=functools.partial(built, "pitc"), help=help_of_it)
@@ -65,7 +65,7 @@ def with_program(doc):
 
 
 def with_programs(doc):
-    """The same, if the second argument is a built pitc_thin."""
+    """Returns the same parser, with a built pitc_thin as second argument."""
     parser = with_program(doc)
     help_of_it = "a built pitc_thin, as crates/pitc_thin/out/pitc_thin, which rt run leaves there"
     parser.add_argument("thin", type=functools.partial(built, "pitc_thin"), help=help_of_it)
@@ -73,7 +73,7 @@ def with_programs(doc):
 
 
 def pages_with_recipes():
-    """The pages whose blocks of commands are run."""
+    """Returns the pages whose blocks of commands are run."""
     return sorted(glob.glob(os.path.join(TOP, "docs/*.md")))
 
 
@@ -95,7 +95,7 @@ def crates():
     return {head.split()[0]: libraries.replace(",", " ").split() for head, _, libraries in parts}
 
 
-# A comment, a raw string, a string or a character of Rattle. What comes first in a text wins, so no mark inside a string begins a comment.
+# A comment, a raw string, a string or a character of Rattle. The first match in a text wins, so no mark inside a string begins a comment.
 COMMENT_OR_TEXT = re.compile(r"""(?s)//[^\n]*|/\*.*?\*/|r(#*)".*?"\1|b?"(?:\\.|[^"\\])*"|b?'(?:\\.[^']*|[^'\\])'""")
 
 
@@ -115,13 +115,13 @@ def test_files():
 
 
 def model(path):
-    """The plan and the zone files of an input of the pipe form, at this path from the top."""
+    """Returns the plan and the zone files of an input of the pipe form, at this path from the top."""
     plan, *zones = read(os.path.join(TOP, path)).split("--\n")
     return plan, zones
 
 
 def pipe_input(plan, zones):
-    """A plan and its zone files as one input of the pipe form."""
+    """Returns a plan and its zone files as one input of the pipe form."""
     return "--\n".join([plan, *zones])
 
 
@@ -136,7 +136,7 @@ def compile_arguments(plan, base, zones, valuers=None, capacity=None):
 
 
 def write_texts(base, texts):
-    """Writes the files at a base, by their endings."""
+    """Writes the files of BASE, by their extensions."""
     for ending, text in texts.items():
         write(base + "." + ending, text)
 

@@ -27,7 +27,7 @@ def commit() -> str:
 
 
 def machine() -> str:
-    """The processors and the memory of this machine."""
+    """Returns the processors and the memory of this machine."""
     info = shared.read("/proc/cpuinfo")
     models = re.findall(r"(?m)^model name\s*: (.*)$", info)
     kilobytes = int(re.search(r"MemTotal:\s+(\d+)", shared.read("/proc/meminfo"))[1])
@@ -50,12 +50,12 @@ def table(columns: Sequence[str], rows: Iterable[Sequence[object]]) -> List[str]
 
 
 def parts() -> dict:
-    """The parts of the page, by their names."""
+    """Returns the parts of the page, by their names."""
     return dict(PART.findall(shared.read(os.path.join(shared.TOP, PAGE))))
 
 
 def write_part(name: str, lines: Iterable[str]) -> None:
-    """Puts these lines in place of the part of this name."""
+    """Replaces the part with this name by these lines."""
     path = os.path.join(shared.TOP, PAGE)
     text = shared.read(path)
     part = re.compile(rf"(?ms)^(<!-- {name} -->\n)(?:.*?^<!-- end of {name} -->\n)?")

@@ -1,4 +1,4 @@
-"""What a run requested from the system, by its trace: calls on files, threads, memory, and what was refused."""
+"""The requests of a run to the system, by its trace: calls on files, threads, memory, and what was refused."""
 import errno
 import os
 import re
@@ -12,10 +12,10 @@ STRACE = ["strace", "-f", "-qq", "--seccomp-bpf", "-xx", "-s", "64", "-e", "sign
 
 MEMORY = {"brk", "mmap", "munmap", "mprotect", "madvise", "mremap"}
 
-# What threads call as they start, wait and end, and the end of the program.
+# The calls of threads that start, wait and end, and the end of the program.
 OF_THREADS = {"set_robust_list", "rseq", "rt_sigprocmask", "exit", "exit_group", "getrandom"}
 
-# The C library counts the processors if many threads allocate, and reads how memory is allotted if it returns much of it.
+# The C library counts the processors if many threads allocate, and reads the system's overcommit policy if it returns much memory.
 OF_LIBRARY = {(path, "O_RDONLY|O_CLOEXEC") for path in (b"/sys/devices/system/cpu/online", b"/proc/sys/vm/overcommit_memory")}
 
 
@@ -52,7 +52,7 @@ def why_not() -> Optional[str]:
 
 
 def bytes_of(escaped: str) -> bytes:
-    """A text as strace shows it, each byte as \\x and two digits."""
+    """Returns a text as strace shows it, each byte as \\x and two digits."""
     return bytes.fromhex(escaped.replace("\\x", ""))
 
 
@@ -89,7 +89,7 @@ def calls_in(trace: str) -> List[Call]:
         if name == "write" and call.args.startswith(TOLD + ","):
             call = fault_of(call, bytes_of(call.args.split('"')[1]))
             if call.name == "close":
-                # The file was closed all the same, by the call before.
+                # The previous call closed the file nevertheless.
                 at = max(n for n, e in enumerate(calls) if e.name == "close" and e.thread == thread)
                 calls[at] = calls[at]._replace(error=call.error)
                 continue
@@ -107,22 +107,22 @@ class Used:
 
     @property
     def total(self) -> int:
-        """How many bytes were read or written."""
+        """Returns the number of bytes that were read or written."""
         return sum(max(call.result, 0) for call in self.calls)
 
     @property
     def is_open(self) -> bool:
-        """Whether it was opened."""
+        """Returns whether it was opened."""
         return self.opened is None or not self.opened.error
 
     @property
     def is_refused(self) -> bool:
-        """Whether a call failed, besides its close."""
+        """Returns whether a call failed, besides its close."""
         return any(call.is_refused for call in [*filter(None, [self.opened]), *self.calls])
 
     @property
     def is_read_whole(self) -> bool:
-        """Whether it was read to its end."""
+        """Returns whether it was read to its end."""
         return bool(self.calls) and self.calls[-1].result == 0 and not self.calls[-1].error
 
 
@@ -231,5 +231,5 @@ class Record:
         return ""
 
     def left_open(self) -> Iterator[Used]:
-        """The files that were never closed."""
+        """Returns the files that were never closed."""
         return (used for number, used in self.lent.items() if number > 2)

@@ -50,7 +50,7 @@ PYPROJECT = shared.read(os.path.join(shared.TOP, "python/pyproject.toml"))
 
 
 def setting(key):
-    """A setting that is a text."""
+    """Returns a setting that is a text."""
     return re.search(rf'(?m)^{key} = "(.*)"', PYPROJECT)[1]
 
 
@@ -69,7 +69,7 @@ def settings():
 
 
 def summed(text):
-    """A sum as RECORD has it."""
+    """Returns a sum as RECORD has it."""
     return "sha256=" + base64.urlsafe_b64encode(hashlib.sha256(text).digest()).rstrip(b"=").decode()
 
 
@@ -91,7 +91,7 @@ def files_of(version, tag, programs, below_share, texts):
 
 
 def packed(files, day):
-    """These files as a wheel, the same for the same files and day."""
+    """Returns these files as a wheel, the same for the same files and day."""
     made = io.BytesIO()
     with zipfile.ZipFile(made, "w") as wheel:
         for path, text in files.items():
@@ -103,7 +103,7 @@ def packed(files, day):
 
 
 def too_new(name, program):
-    """What a compiled library calls that systems with its C library need not have."""
+    """Returns what a compiled library calls that systems with its C library need not have."""
     for library, least in OF_CPP.items():
         needed = [tuple(map(int, found.split(b"."))) for found in re.findall(library + rb"_([\d.]+)", program)]
         if needed and max(needed) > least:
@@ -125,7 +125,7 @@ def is_there(path, text):
 
 
 def listed(folder):
-    """The files in a folder and in those below it. (pip leaves folders that others may share, empty.)"""
+    """Returns the files in a folder and in all folders below it. (pip keeps empty folders that others may share.)"""
     return {os.path.relpath(os.path.join(above, name), folder) for above, _, names in os.walk(folder) for name in names}
 
 

@@ -1,4 +1,4 @@
-"""From a mining package's export to a MineLib instance and back, beside `pitc`.
+"""From a mining package's export to a MineLib instance and back, for use with `pitc`.
 
     import pit_tools
     mine = pit_tools.read_instance("deposit")
@@ -6,7 +6,7 @@
 
 The names of `__all__` stay as they are from one version to the next. docs/interface.md lists them,
 and `help` prints their shapes, units and errors. Anything else in the modules may change. A module
-is loaded when a name of it is first used. The command `pit-tools` calls those of
+is loaded when a name of it is first used. The command `pit-tools` calls the modules of
 `pit_tools.commands`.
 """
 from __future__ import annotations

@@ -1,8 +1,8 @@
-"""What runs the command `pit-tools`, by `python3 -m pit_tools` too.
+"""Runs the command `pit-tools`, also by `python3 -m pit_tools`.
 
-Python looks for modules in the current folder first, or where an empty part of PYTHONPATH stands: a
-user's own `random.py` or `csv.py` there would be run. So it looks where this package lies, and
-where packages are installed.
+Python looks for modules in the current folder first, or in the place of an empty part of
+PYTHONPATH: it would run a user's own `random.py` or `csv.py` there. So this looks only in the
+folder of this package and where packages are installed.
 """
 import os
 import site
@@ -12,8 +12,8 @@ OWN = os.path.dirname(os.path.dirname(os.path.abspath(__file__)))
 
 
 def look_nowhere_else() -> None:
-    """Takes the current folder from where Python looks. Started by `-I`, as by the script
-    pit-tools, it looks where the user has installed packages too."""
+    """Removes the current folder from Python's search path. If Python was started by `-I`, as the
+    script pit-tools does, this adds the user's installed packages to the path."""
     try:
         current = os.getcwd()
         sys.path[:] = [folder
@@ -21,7 +21,7 @@ def look_nowhere_else() -> None:
     except FileNotFoundError:
         pass
     sys.path.insert(0, OWN)
-    # In a folder of the system, byte code that root wrote beside the package would outlive its
+    # In a folder of the system, byte code that root wrote next to the package would outlive its
     # removal.
     if os.stat(OWN).st_uid == 0 or os.environ.get("PYTHONDONTWRITEBYTECODE"):
         sys.dont_write_bytecode = True
@@ -32,13 +32,13 @@ def look_nowhere_else() -> None:
 
 
 def main() -> int:
-    """Runs the words that the process was given."""
+    """Runs the command line of the process."""
     look_nowhere_else()
-    from pit_tools.version import lacking
+    from pit_tools.version import missing_packages
 
     if sys.argv[1:] == ["--lacking"]:
-        print(lacking())
-        return int(bool(lacking()))
+        print(missing_packages())
+        return int(bool(missing_packages()))
     from pit_tools.cli import main as run
 
     return run()

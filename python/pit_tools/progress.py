@@ -1,11 +1,11 @@
-"""A bar on standard error for work that takes long, if that is a terminal; elsewhere nothing.
+"""A bar on standard error for long work, if that is a terminal; otherwise nothing.
 
     with progress.shown("survey", 3):
         progress.step("the ultimate pit")
         ...
 
-Steps are told from wherever the work is done: outside of `shown` they tell nothing. Bars are
-those of tqdm, and if that is missing there is none.
+Steps are reported by the code that does the work; outside `shown` they print nothing. tqdm draws
+the bars; without it there are none.
 """
 from __future__ import annotations
 
@@ -17,14 +17,14 @@ from typing import TYPE_CHECKING, Iterator, Optional
 if TYPE_CHECKING:
     from tqdm import tqdm
 
-#: Steps count whole ones; bytes have a unit and a rate.
+#: Steps are counted in integers; bytes have a unit and a rate.
 _STEPS = "{desc} |{bar:30}| {n_fmt} of {total_fmt}, {elapsed}{postfix}"
 _BYTES = "{desc} |{bar:30}| {n_fmt}{unit} of {total_fmt}{unit}, {elapsed}"
 _GROWING = "{desc} {n_fmt}{unit}, {rate_fmt}, {elapsed}"
 
 
 def is_terminal() -> bool:
-    """Whether standard error is a terminal."""
+    """Returns whether standard error is a terminal."""
     try:
         return sys.stderr is not None and sys.stderr.isatty()
     except ValueError:
@@ -39,7 +39,7 @@ def _made(**words: object) -> Optional[tqdm]:
         from tqdm import tqdm
     except ImportError:
         return None
-    # Neither a thread that watches bars nor a lock among processes is wanted.
+    # Neither a thread that watches bars nor a lock among processes is needed.
     tqdm.monitor_interval = 0
     tqdm.set_lock(threading.RLock())
     return tqdm(file=sys.stderr, leave=False, dynamic_ncols=True, **words)
@@ -56,7 +56,7 @@ class _Steps:
         self.begun = 0
 
     def tell(self, count: Optional[int], what: str) -> None:
-        """Shows how many steps are done, if that is given, and a text."""
+        """Shows the number of finished steps, if that is given, and a text."""
         if self.drawn is not None:
             self.drawn.n = self.drawn.n if count is None else min(count, self.drawn.total)
             self.drawn.set_postfix_str(what)
@@ -64,7 +64,8 @@ class _Steps:
 
 @contextmanager
 def shown(name: str, steps: int) -> Iterator[None]:
-    """Shows a bar of so many steps until the block ends; within another it is a part of that."""
+    """Shows a bar of the given number of steps until the block ends; inside another bar it is a
+    part of that."""
     if _Steps.now is not None:
         yield
         return
@@ -78,7 +79,7 @@ def shown(name: str, steps: int) -> Iterator[None]:
 
 
 def step(what: str) -> None:
-    """Begins the next step, so that those before are done."""
+    """Begins the next step and counts those before it as done."""
     one = _Steps.now
     if one is not None:
         one.tell(one.begun, what)
@@ -86,7 +87,7 @@ def step(what: str) -> None:
 
 
 def done(what: str) -> None:
-    """One more step is done, of those that are done in any order."""
+    """Counts +1 step as done, for steps that are done in any order."""
     one = _Steps.now
     if one is not None:
         one.begun += 1
@@ -94,14 +95,14 @@ def done(what: str) -> None:
 
 
 def tell(what: str) -> None:
-    """Says of the step what it does now."""
+    """Shows what the current step does now."""
     if _Steps.now is not None:
         _Steps.now.tell(None, what)
 
 
 @contextmanager
 def hidden() -> Iterator[None]:
-    """Takes the bar away while something is printed."""
+    """Removes the bar while something is printed."""
     drawn = _Steps.now.drawn if _Steps.now else None
     if drawn is not None:
         drawn.clear()
@@ -112,14 +113,14 @@ def hidden() -> Iterator[None]:
 
 
 class Growth:
-    """Bytes that grow: of so many in all, or without an end."""
+    """A bar of bytes that grow, with the given total or without one."""
 
     def __init__(self) -> None:
         self.drawn: Optional[tqdm] = None
         self.name = ""
 
     def tell(self, name: str, count: int, total: Optional[int] = None) -> None:
-        """Shows how many bytes there are by now, in a bar of its own for each name."""
+        """Shows the current number of bytes, in a separate bar for each name."""
         if self.drawn is None or name != self.name:
             self.close()
             form = _GROWING if total is None else _BYTES
@@ -130,7 +131,7 @@ class Growth:
             self.drawn.refresh()
 
     def close(self) -> None:
-        """Takes the bar away."""
+        """Removes the bar."""
         if self.drawn is not None:
             self.drawn.close()
         self.drawn = None

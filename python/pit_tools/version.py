@@ -1,4 +1,4 @@
-"""The version of pit-tools, and what it runs on."""
+"""The version of pit-tools, and the versions that it runs on."""
 from __future__ import annotations
 
 import sys
@@ -9,8 +9,8 @@ from pit_tools import VERSION
 NEEDED = ("pandas", "numpy", "scipy", "matplotlib", "openpyxl")
 
 
-def lacking() -> str:
-    """What this Python lacks of what the package needs, which the launcher asks by --lacking."""
+def missing_packages() -> str:
+    """Returns the packages that this Python is missing, which the launcher gets by --lacking."""
     import importlib.util
 
     if sys.version_info < (3, 9):

@@ -31,7 +31,7 @@ KINDS = {"first": exports, "later": later_exports, "mistake": mistaken_exports,
 
 
 class Verdict(NamedTuple):
-    """The outcome of an export: `right`, `told`, `refused` or `wrong`, with the line that says
+    """The outcome of an export: `right`, `message`, `rejected` or `wrong`, with the line that says
     so or what is wrong."""
 
     name: str
@@ -56,15 +56,15 @@ def verdict_of(export: Export) -> Verdict:
         with open(name, "wb") as file:
             file.write(content)
     line = ""
-    if export.refused:
+    if export.rejected:
         try:
             text = "\n".join(f"- {one}" for one in imported(export, **export.first).report.doubts)
             outcome = "told"
         except UserError as error:
             text, outcome = str(error), "refused"
-        line = line_with(export.refused, text)
+        line = line_with(export.rejected, text)
         if not line:
-            return Verdict(export.name, "wrong", f"no {export.refused} in: {text}")
+            return Verdict(export.name, "wrong", f"no {export.rejected} in: {text}")
     if not export.rows:
         if outcome == "told":
             return Verdict(export.name, "wrong", f"another mine, and told alone: {line}")
@@ -74,14 +74,14 @@ def verdict_of(export: Export) -> Verdict:
     except UserError as error:
         return Verdict(export.name, "wrong", f"refused: {error}")
     text = found.report.text()
-    lacking = [pattern for pattern in export.told if not re.search(pattern, text)]
-    wrong = [f"no {pattern} in: {text}" for pattern in lacking] or list(differences(export, found))
+    absent = [pattern for pattern in export.message if not re.search(pattern, text)]
+    wrong = [f"no {pattern} in: {text}" for pattern in absent] or list(differences(export, found))
     if wrong:
         return Verdict(export.name, "wrong", wrong[0])
-    if export.refused:
+    if export.rejected:
         return Verdict(export.name, outcome, line)
-    told = export.told[0] if export.told else ""
-    return Verdict(export.name, "told" if told else "right", told and line_with(told, text))
+    message = export.message[0] if export.message else ""
+    return Verdict(export.name, "told" if message else "right", message and line_with(message, text))
 
 
 def line_with(pattern: str, text: str) -> str:
@@ -103,7 +103,7 @@ def differences(export: Export, found: Imported) -> Iterable[str]:
     for zone, truth in export.rows.items():
         for place, contents in truth.items():
             got = rows[zone].get(place)
-            if got is None or any(abs(one - other) > room for one, other, room
+            if got is None or any(abs(one - other) > capacity for one, other, capacity
                                   in zip(got, contents, export.within)):
                 yield f"{zone} {place}: {got}, not {contents}"
                 return

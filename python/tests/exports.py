@@ -104,7 +104,7 @@ class Export:
     """An export: its files, the arguments that read it, what it must give, and how far that may
     differ (kilograms, millionths).
 
-    `told` has patterns of the report. `refused` is a pattern of the error or of a line after
+    `message` has patterns of the report. `rejected` is a pattern of the error or of a line after
     LOOK AT, with `first` in place of some arguments: it shows what happens while a planner
     does not know better. `expected` has arguments of a resource report."""
 
@@ -113,8 +113,8 @@ class Export:
     words: dict
     rows: Rows
     within: tuple[int, int] = (0, 0)
-    told: tuple[str, ...] = ()
-    refused: str = ""
+    message: tuple[str, ...] = ()
+    rejected: str = ""
     first: dict = field(default_factory=dict)
     grid: str = "1000,2000,300,20,20,10"
     expected: tuple[str, ...] = ()
@@ -160,10 +160,10 @@ def old_exports() -> Iterable[Export]:
                  noisy, end="\r\n")
     yield Export("quoted names, a row of units, -99 and CR LF", {"a.csv": text.encode()}, words,
                  truth(),
-                 told=("1 between it and the first number left out",
-                       f"left out: {sum(not b.is_rock for b in MINE)} rows without tonnes",
-                       f"kept with grade 0: {sum(b.is_rock and b.grade is None for b in MINE)} "
-                       "rows without a grade"))
+                 message=("1 between it and the first number omitted",
+                          f"omitted: {sum(not b.is_rock for b in MINE)} rows without tonnes",
+                          f"kept with grade 0: {sum(b.is_rock and b.grade is None for b in MINE)} "
+                          "rows without a grade"))
 
     text = table(
         "X,Y,Z,SG,AU_PPB,ZONE",
@@ -183,15 +183,15 @@ def old_exports() -> Iterable[Export]:
     yield Export("semicolons, decimal commas, a title, names with blanks", {"a.csv": text.encode()},
                  {"x": "x mitte", "y": "y mitte", "z": "höhe", "tonnes": "Dichte*4000",
                   "grade": "Au ppb*0.001", "zone": ["Zone"]}, rows,
-                 told=("decimal comma", "cells between semicolons", "header in line 2"))
+                 message=("decimal comma", "cells between semicolons", "header in line 2"))
 
     text = table("I,J,K,TONNES,AU,ZONE",
                  lambda b: ",".join([str(b.i + 1), str(b.j + 1), str(NZ - b.k), *usual(b, "")[3:]]))
     yield Export("indices from 1, benches from the top", {"a.csv": text.encode()},
                  {"i": "I", "j": "J", "k": "K", "from_top": True, "blocks": f"{NX},{NY},{NZ}",
                   "first": "1000,2000,300", "size": "20,20,10", "tonnes": "TONNES", "grade": "AU",
-                  "zone": ["ZONE"]}, truth(), told=("indices count from 1", "benches count from "
-                                                    "the top: 7 is the lowest, at z = 300"))
+                  "zone": ["ZONE"]}, truth(), message=("indices count from 1", "benches count from "
+                                                       "the top: 7 is the lowest, at z = 300"))
 
     text = table("X,Y,DEPTH,TONNES,AU,ZONE",
                  lambda b: ",".join([str(b.x), str(b.y), str(400 - b.z), *usual(b, "")[3:]]))
@@ -205,8 +205,8 @@ def old_exports() -> Iterable[Export]:
                   "density": "density", "grade": "gold, g/t", "zone": ["zone number"]},
                  truth(kilograms=by_density,
                        zone=lambda b: str(["oxide", "west", "east", "air"].index(b.zone))),
-                 told=("GSLIB",
-                       "places by the order of rows: x upward, then y upward, then z upward"))
+                 message=("GSLIB",
+                          "positions by the order of rows: x upward, then y upward, then z upward"))
 
     backwards = sorted(MINE, key=lambda b: (-b.k, b.i, b.j))
     text = table("TONNES;AU;ZONE", lambda b: ";".join(usual(b)[3:]), backwards)
@@ -215,7 +215,7 @@ def old_exports() -> Iterable[Export]:
                  {"blocks": f"{NX},{NY},{NZ}", "first": "1000,2000,300", "size": "20,20,10",
                   "order": "y,x,-z", "tonnes": "TONNES", "grade": "AU", "zone": ["ZONE"],
                   "where": ['ZONE != "air"']}, truth(),
-                 told=("y upward, then x upward, then z downward",))
+                 message=("y upward, then x upward, then z downward",))
 
     text = table("X,Y,Z,TONNES,AU,ZONE",
                  lambda b: ",".join([f"{b.x * 0.625:.0f}", f"{b.y * 0.625:.0f}", *usual(b)[2:]]))
@@ -223,7 +223,7 @@ def old_exports() -> Iterable[Export]:
                  {**USUAL, "size": "12.5,12.5,10"},
                  truth(place=lambda b: (625_000 + 12_500 * b.i, 1_250_000 + 12_500 * b.j,
                                         1000 * b.z)), grid="625,1250,300,12.5,12.5,10",
-                 told=("x is put on the grid: rows lie up to 0.5 beside it",))
+                 message=("x is put on the grid: rows are up to 0.5 off it",))
 
     yield Export("the same, and the size found", {"a.csv": text.encode()}, USUAL,
                  truth(place=lambda b: (625_000 + 12_500 * b.i, 1_250_000 + 12_500 * b.j,
@@ -239,8 +239,8 @@ def old_exports() -> Iterable[Export]:
         return table("X,Y,Z,TONNES,AU,ZONE", row)
     yield Export("turned, by the bearing of +x", {"a.csv": turned(30).encode()},
                  {**USUAL, "x_bearing": 60, "about": "1000,2000"}, truth(),
-                 told=(r"\+x at bearing 60, \+y at azimuth 330",),
-                 refused="Neighbours lie at bearings (59.9|60.0)", first={"x_bearing": None})
+                 message=(r"\+x at bearing 60, \+y at azimuth 330",),
+                 rejected="Neighbours are at bearings (59.9|60.0)", first={"x_bearing": None})
 
     def quarters() -> str:
         luck, lines = random.Random(1), ["XC,YC,ZC,TONNES,AU,ZONE"]
@@ -257,8 +257,8 @@ def old_exports() -> Iterable[Export]:
     yield Export("sub-blocks", {"a.csv": quarters().encode()},
                  {**USUAL, "x": "XC", "y": "YC", "z": "ZC", "parents": "20,20,10",
                   "corner": "990,1990,295"}, truth(),
-                 told=(f"{2 * sum(b.is_rock for b in MINE):,} sub-blocks are "
-                       f"{sum(b.is_rock for b in MINE)} blocks",), refused="sub-blocks|--parents",
+                 message=(f"{2 * sum(b.is_rock for b in MINE):,} sub-blocks are "
+                          f"{sum(b.is_rock for b in MINE)} blocks",), rejected="sub-blocks|--parents",
                  first={"parents": "", "corner": "", "size": "20,20,10"})
 
     def cut(block: Block) -> list[str]:
@@ -272,11 +272,11 @@ def old_exports() -> Iterable[Export]:
     yield Export("sub-blocks with their sizes and a density", {"a.csv": text.encode()},
                  {**USUAL, "x": "XC", "y": "YC", "z": "ZC", "tonnes": "", "density": "SG",
                   "sub_size": "XINC,YINC,ZINC", "parents": "20,20,10"}, truth(kilograms=by_density),
-                 refused="goes beyond its parent along z", first={"parents": "20,20,5"})
+                 rejected="extends beyond its parent along z", first={"parents": "20,20,5"})
 
     text = table("X\tY\tZ\tTONNES\tAU\tZONE", lambda b: "\t".join(usual(b)), end="\r\n")
     yield Export("UTF-16 of a spreadsheet", {"a.txt": text.encode("utf-16")}, USUAL, truth(),
-                 told=("cells between tabs, UTF-16",))
+                 message=("cells between tabs, UTF-16",))
 
     def feet(block: Block) -> str:
         factor = "" if block.density is None else f"{32.03694 / (block.density / 10000):.9f}"
@@ -304,7 +304,7 @@ def old_exports() -> Iterable[Export]:
                        else round(b.density / 10 * cubic),
                        place=lambda b: (1000 * (5000 + 25 * b.i), 1000 * (6000 + 25 * b.j),
                                         1000 * (1000 + 20 * b.k))), within=(1, 0),
-                 grid="5000,6000,1000,25,25,20", told=("14 x 10 x 7 blocks of 25 x 25 x 20 ft",))
+                 grid="5000,6000,1000,25,25,20", message=("14 x 10 x 7 blocks of 25 x 25 x 20 ft",))
 
     text = table("X,Y,Z,TONS,CU,ZONE", lambda b: ",".join([*usual(b)[:4], "" if b.grade is None
                                                            else str(b.grade // 1_000_000), b.zone]))
@@ -333,8 +333,8 @@ def new_exports() -> Iterable[Export]:
     text = table("X,Y,Z,TONNES,AU,ZONE", azimuth)
     yield Export("turned, by the azimuth of +y", {"a.csv": text.encode()},
                  {**USUAL, "y_azimuth": 40, "about": "1000,2000", "blocks": f"{NX},{NY},{NZ}"},
-                 truth(), told=(r"\+x at bearing 130, \+y at azimuth 40",),
-                 refused="the turn is a quarter off", first={"y_azimuth": None, "x_bearing": 40})
+                 truth(), message=(r"\+x at bearing 130, \+y at azimuth 40",),
+                 rejected="the turn is a quarter off", first={"y_azimuth": None, "x_bearing": 40})
 
     luck = random.Random(3)
     part = {block[:3]: luck.choice([0, 0, 25, 50, 75, 100]) for block in MINE}
@@ -352,22 +352,22 @@ def new_exports() -> Iterable[Export]:
                   "ore_share": "ORE_PCT"},
                  truth(kilograms=both, grade=lambda b: None if b.grade is None
                        else round(b.grade * b.density * 4 * part[b[:3]] / both(b))), within=(1, 1),
-                 told=("are part ore and part waste", "--ore-share is read as percent"))
+                 message=("are part ore and part waste", "--ore-share is read as percent"))
     only_ore = truth(kilograms=lambda b: b.density * 4 * part[b[:3]] if b.density and part[b[:3]]
                      else None)
     yield Export("a percent model by its natural formula, which loses the waste",
                  {"a.csv": text.encode()}, {**USUAL, "tonnes": "ORE_PCT/100*SG_ORE*4000"}, only_ore,
-                 within=(1, 0), told=("is only their ore counted",))
+                 within=(1, 0), message=("is only their ore counted",))
 
     text = table("X,Y,Z,AU,ZONE",
                  lambda b: ",".join([*usual(b)[:3], known(b.grade, 6, "-99"), b.zone]))
     yield Export("no density, so air has that of all", {"a.csv": text.encode()},
                  {**USUAL, "tonnes": "", "density": "2.65"}, truth(kilograms=lambda b: 10_600_000),
-                 told=("every place of the box has rock, and most of the highest",))
+                 message=("every position of the box has rock, and most of the highest",))
     yield Export("no density, and air left out", {"a.csv": text.encode()},
                  {**USUAL, "tonnes": "", "density": "2.65", "where": ['ZONE != "air"']},
                  truth(kilograms=lambda b: None if b.zone == "air" else 10_600_000),
-                 told=("rows by the filter",))
+                 message=("rows by the filter",))
 
     text = table("X,Y,Z,SG,AU,ROCK,ZONE",
                  lambda b: ",".join([*usual(b)[:3], "-99" if b.rock == "OX" else "2.70",
@@ -376,7 +376,7 @@ def new_exports() -> Iterable[Export]:
                  {**USUAL, "tonnes": "", "density": "SG",
                   "where": ['ROCK != "AIR"', 'ROCK != "VOID"']},
                  truth(kilograms=lambda b: 10_800_000 if b.rock == "SU" else None),
-                 told=(r"\d+ of them have a grade",))
+                 message=(r"\d+ of them have a grade",))
     yield Export("rock whose density is -99, by its rock code", {"a.csv": text.encode()},
                  {**USUAL, "tonnes": "", "density": "SG", "density_by": "ROCK: OX=2.45",
                   "where": ['ROCK != "AIR" and ROCK != "VOID"']},
@@ -389,27 +389,27 @@ def new_exports() -> Iterable[Export]:
                  lambda b: ";".join([*(blanks(cell) if cell else "" for cell in usual(b, "")[:5]),
                                      b.zone]))
     yield Export("no-break spaces between thousands", {"a.csv": text.encode()}, USUAL, truth(),
-                 told=("no-break spaces", "decimal comma"))
+                 message=("no-break spaces", "decimal comma"))
 
     text = table("Östlich;Nördlich;Höhe;Tonnen;Gold;Zone",
                  lambda b: ";".join(usual(b, "")).replace(".", ","))
     yield Export("cp1252", {"a.csv": text.encode("cp1252")},
                  {"x": "östlich", "y": "nördlich", "z": "höhe", "tonnes": "tonnen", "grade": "gold",
-                  "zone": ["zone"]}, truth(), told=("read as cp1252",))
+                  "zone": ["zone"]}, truth(), message=("read as cp1252",))
 
     text = table('X,Y,Z,"Tonnes\n(t)","Au\n(g/t)",ZONE', lambda b: ",".join(usual(b)))
     yield Export("a line break in a header's cell", {"a.csv": text.encode()},
                  {**USUAL, "tonnes": "Tonnes", "grade": "au (g/t)"}, truth(),
-                 told=("header in line 3",))
+                 message=("header in line 3",))
 
     text = table("X,Y,Z,TONNES,AU,ZONE", lambda b: ",".join(usual(b, "(99.00)")))
     yield Export("negatives in parentheses", {"a.csv": text.encode()}, USUAL, truth(),
-                 told=(r"`\(99.00\)`",))
+                 message=(r"`\(99.00\)`",))
 
     text = "".join(" ".join(usual(b)) + "\n" for b in MINE)
     yield Export("no header", {"a.txt": text.encode()},
                  {**USUAL, "names": ["X", "Y", "Z", "TONNES", "AU", "ZONE"]}, truth(),
-                 told=("no header",), refused="--names", first={"names": ()})
+                 message=("no header",), rejected="--names", first={"names": ()})
 
     text = table("X,Y,Z,TONNES,AU,DOMAIN,OXIDATION",
                  lambda b: ",".join([*usual(b)[:5], "W" if b.i < 6 else "E",
@@ -430,7 +430,7 @@ def new_exports() -> Iterable[Export]:
                  {"a.csv": text.encode(), "d.csv": densities.encode()},
                  {**USUAL, "tonnes": "", "density_by": "d.csv"},
                  truth(kilograms=lambda b: {"SU": 11_000_000, "OX": 9_800_000}.get(b.rock)),
-                 told=("without a density: `AIR`",))
+                 message=("without a density: `AIR`",))
 
 
 def workbook(rows: Iterable[list], title: str, sheet: str = "Blocks") -> bytes:
@@ -442,9 +442,9 @@ def workbook(rows: Iterable[list], title: str, sheet: str = "Blocks") -> bytes:
     page.append([title])
     for row in rows:
         page.append(row)
-    told = io.BytesIO()
-    book.save(told)
-    return told.getvalue()
+    message = io.BytesIO()
+    book.save(message)
+    return message.getvalue()
 
 
 def further_exports() -> Iterable[Export]:
@@ -456,12 +456,12 @@ def further_exports() -> Iterable[Export]:
     rows = [["X", "Y", "Z", "TONNES", "AU", "ZONE"], *map(cells, MINE)]
     yield Export("a workbook, in its second sheet below a title",
                  {"a.xlsx": workbook(rows, "Deposit, March")}, {**USUAL, "missing": ["n.d."]},
-                 truth(), told=("sheet `Blocks` of a workbook; header in line 2",))
+                 truth(), message=("sheet `Blocks` of a workbook; header in line 2",))
 
     marks = ["-99", "", "n/a", "-1.0e30", "***", "#N/A"]
     text = table("X,Y,Z,TONNES,AU,ZONE", lambda b: ",".join(usual(b, marks[(b.i + b.j + b.k) % 6])))
     yield Export("several marks of what is missing", {"a.csv": text.encode()},
-                 {**USUAL, "missing": ["***"]}, truth(), refused=r"the column TONNES has `\*\*\*`",
+                 {**USUAL, "missing": ["***"]}, truth(), rejected=r"the column TONNES has `\*\*\*`",
                  first={"missing": []})
 
     lines = ["X,Y,Z,TONNES,AU,ZONE"]
@@ -472,7 +472,7 @@ def further_exports() -> Iterable[Export]:
                 f"{block.x},{block.y},{block.z},{dec(mass, 3)},{known(block.grade, 6, '')},{zone}"
                 for mass, zone in ((first, "dyke"), (block.kilograms - first, block.zone))]
     yield Export("several rows a block", {"a.csv": "\n".join(lines).encode()},
-                 {**USUAL, "merge": True}, truth(), refused="rows have a place that stands before, "
+                 {**USUAL, "merge": True}, truth(), rejected="rows have the position of an earlier one, "
                  ".*: a.csv: line 3 .* parts of a block are summed up by --merge",
                  first={"merge": False})
 
@@ -482,7 +482,7 @@ def further_exports() -> Iterable[Export]:
     for place in holes:
         kept["west" if place[0] < 1_120_000 else "east"][place] = (0, 0)
     yield Export("holes below rock, kept", {"a.csv": text.encode()}, {**USUAL, "holes": True}, kept,
-                 told=("kept with 0 tonnes: 3 holes",))
+                 message=("kept with 0 tonnes: 3 holes",))
 
     text = table("X,Y,Z,SG,NSR,ZONE",
                  lambda b: ",".join([*usual(b)[:3], known(b.density, 4, ""), "" if b.grade is None
@@ -491,7 +491,7 @@ def further_exports() -> Iterable[Export]:
                  {**USUAL, "tonnes": "", "density": "SG", "grade": "NSR USD/t"},
                  truth(kilograms=by_density, grade=lambda b: None if b.grade is None
                        else max(0, (b.grade // 10_000 * 40 - 500) * 10_000)),
-                 told=("kept with a return of 0",))
+                 message=("kept with a return of 0",))
 
     text = table("XC,YC,ZC,TOPO,SG,AU,ZONE", lambda b: ",".join(
         [*usual(b)[:3], str((b.i * 7 + b.j) % 4 * 25 + 25) if b.rock == "OX" else "100",
@@ -508,7 +508,7 @@ def own_exports() -> Iterable[Export]:
     text = table("X|Y|Z|TONNES|AU|ZONE", lambda b: "|".join(swiss(cell) for cell in usual(b)))
     yield Export("packed by gzip, bars, apostrophes between thousands",
                  {"a.csv.gz": gzip.compress(text.encode())}, USUAL, truth(),
-                 told=("cells between bars", "between thousands stand apostrophes"))
+                 message=("cells between bars", "thousands are separated by apostrophes"))
 
     head = ("xcentre,ycentre,zcentre,tonnes,au,zone\nVariable "
             "descriptions:,,,mass,gold,name\nVariable "
@@ -516,7 +516,7 @@ def own_exports() -> Iterable[Export]:
     text = table(head, lambda b: ",".join(usual(b)))
     yield Export("three lines of descriptions below the header", {"a.csv": text.encode()},
                  {**USUAL, "x": "xcentre", "y": "ycentre", "z": "zcentre"}, truth(),
-                 told=("3 between it and the first number left out",))
+                 message=("3 between it and the first number omitted",))
 
     def corners(block: Block) -> str:
         edges = [f"{float(value):.5E}".replace("E", "D")
@@ -526,7 +526,7 @@ def own_exports() -> Iterable[Export]:
     text = table("XMIN XMAX YMIN YMAX ZMIN ZMAX TONNES AU ZONE", corners)
     yield Export("corners with the exponents of Fortran, between blanks", {"a.txt": text.encode()},
                  {**USUAL, "x": "(XMIN+XMAX)/2", "y": "(YMIN+YMAX)/2", "z": "(ZMIN+ZMAX)/2"},
-                 truth(), told=("cells between blanks",))
+                 truth(), message=("cells between blanks",))
 
     order = sorted(MINE, key=lambda b: (b.i, b.j, b.k))
     text = table("IJK,TONNES,AU,ZONE",
@@ -545,7 +545,7 @@ def own_exports() -> Iterable[Export]:
         archive.writestr("both.csv", halves[0] + "\n" + halves[1] + f"Total,,,{12345},,\n")
     yield Export("two exports in one file and a line of totals, in a zip",
                  {"a.zip": packed.getvalue()}, USUAL, truth(),
-                 told=("1 headers that stand again", "1 lines behind the last row"))
+                 message=("1 repeated headers", "1 lines after the last row"))
 
     def far(block: Block) -> str:
         return ",".join([single(512_345.678 + 20 * block.i), single(6_543_210.5 + 20 * block.j),
@@ -562,7 +562,7 @@ def own_exports() -> Iterable[Export]:
                                      else f'"{b.kilograms // 1000:,}.{b.kilograms % 1000:03d}"',
                                      *usual(b)[4:]]))
     yield Export("commas between thousands, in quotes", {"a.csv": text.encode()}, USUAL, truth(),
-                 told=("between thousands stand commas",))
+                 message=("thousands are separated by commas",))
 
     halves = [table(head, lambda b: ",".join(usual(b)), [b for b in MINE if (b.i < 6) == is_west])
               for is_west in (True, False)]

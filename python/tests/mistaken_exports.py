@@ -14,16 +14,16 @@ PLAIN = table(HEAD, lambda b: ",".join(usual(b)))
 ROCK = [block for block in MINE if block.is_rock]
 
 
-def case(name: str, files: dict[str, bytes], words: dict, told: str, rows: Optional[Rows] = None,
+def case(name: str, files: dict[str, bytes], words: dict, message: str, rows: Optional[Rows] = None,
          mended: Optional[dict] = None, grid: str = "1000,2000,300,20,20,10") -> Export:
     """An export with a pattern of what stops it or, if `rows` has its mine, of what else is
     reported; and with arguments that are changed for the mine, if the first ones stop."""
     if rows is None:
-        return Export(name, files, words, {}, refused=told)
+        return Export(name, files, words, {}, rejected=message)
     if mended:
         first = {key: words.get(key, "") for key in mended}
-        return Export(name, files, {**words, **mended}, rows, (1, 12), refused=told, first=first)
-    return Export(name, files, words, rows, (1, 12), (told,) if told else (), grid=grid)
+        return Export(name, files, {**words, **mended}, rows, (1, 12), rejected=message, first=first)
+    return Export(name, files, words, rows, (1, 12), (message,) if message else (), grid=grid)
 
 
 def metal(name: str, factor: float = 1.0) -> dict[str, bytes]:
@@ -90,16 +90,16 @@ def mistaken_exports() -> list[Export]:
         case("the same in its other form", {"a.csv": TWO_METALS}, {**USUAL, "grade": "AU+CU*82/58"},
              "in .* rows, .* a term is missing, and adds nothing", truth(grade=equivalent)),
         *(case(f"a unit in the name {name}", metal(name, factor), {**USUAL, "grade": f"`{name}`"},
-               f"the column {name} says `{unit}`.*give --grade '{name} {given}'", truth(),
+               f"the column {name} has the unit `{unit}`.*give --grade '{name} {given}'", truth(),
                {"grade": f"`{name}` {given}"})
           for name, factor, unit, given in [
               ("Fe%", 1e-4, "%", "%"), ("FE_PERC", 1e-4, "%", "%"), ("CUPC", 1e-4, "%", "%"),
               ("AUPPB", 1e3, "ppb", "ppb"), ("AG_KGT", 1e-3, "kg/t", "kg/t"),
               ("AU_OPT", 1 / 34.285714, "opt", "oz/st"), ("AU_OZT", 1 / 34.285714, "ozt", "oz/st")]),
         case("ounces in place of a grade", metal("AU_OZ", 350.0), {**USUAL, "grade": "AU_OZ"},
-             "the column AU_OZ seems to be metal in oz, and no grade"),
+             "the column AU_OZ seems to be metal in oz, not a grade"),
         case("a unit that is given beside another in the name", metal("AU_PPB", 1.0),
-             {**USUAL, "grade": "AU_PPB g/t"}, "the column AU_PPB says `ppb`, and --grade reads it as",
+             {**USUAL, "grade": "AU_PPB g/t"}, "the column AU_PPB has the unit `ppb`, but --grade reads it as",
              truth()),
         case("a file cut within its last text", {"a.csv": PLAIN[:PLAIN.rindex("oxide") + 3].encode()},
              USUAL, "the last line, .*oxi`, has no line end, and its last cell is the beginning of "
@@ -107,7 +107,7 @@ def mistaken_exports() -> list[Export]:
         case("a file cut within its last number",
              {"a.csv": table("X,Y,Z,ZONE,AU,TONNES", lambda b: ",".join(
                  [*usual(b)[:3], b.zone, *usual(b)[4:2:-1]]), ROCK)[:-3].encode()}, USUAL,
-             "its last cell has 1 decimals, and others have 3"),
+             "its last cell has 1 decimals, but others have 3"),
         case("a last line without an end", {"a.csv": PLAIN[:-1].encode()}, USUAL,
              "the last line has no line end: if the file was cut short", truth()),
         case("a northing as x", {"a.csv": table(HEAD, lambda b: ",".join(
@@ -123,7 +123,7 @@ def mistaken_exports() -> list[Export]:
              grid="1636000,513000,300,20,20,10"),
         case("999 as a grade", {"a.csv": table(HEAD, lambda b: ",".join(usual(b, "999"))).encode()},
              {**USUAL, "where": ['ZONE != "air"', "TONNES != 999"]},
-             r"AU is 999 there, as in [\d,]+ rows, and else .* give --missing 999", truth(),
+             r"AU is 999 there, as in [\d,]+ rows, but otherwise .* give --missing 999", truth(),
              {"missing": ["999"]}),
         case("cubic feet beside lengths without a unit",
              {"a.csv": table("X,Y,Z,TF,AU,ZONE", lambda b: ",".join(
@@ -134,7 +134,7 @@ def mistaken_exports() -> list[Export]:
                                    if b.k < 6 and not (b.i % 2 or b.j % 2 or b.k % 2)),
              *(f"{b.x},{b.y},{b.z},2.7,1.2,rock" for b in MINE if b.k == 6 and not b.i * b.j),
              ""]).encode()}, {**USUAL, "tonnes": "", "density": "SG"},
-             "rows lie along x on a grid of 20, and most have their next 40 away"),
+             "rows are along x on a grid of 20, but most have their next 40 away"),
         case("a column without a grade", {"a.csv": table(HEAD, lambda b: ",".join(
             [*usual(b)[:4], "0", b.zone])).encode()}, USUAL, "LOOK AT\n- no block has a grade",
              truth(grade=lambda b: 0)),
@@ -142,24 +142,24 @@ def mistaken_exports() -> list[Export]:
             [f"{b.x}.5", *usual(b)[1:]])).encode()},
              {"i": "X", "j": "Y", "k": "Z", "first": "1000,2000,300", "size": "20,20,10",
               "index_from": 0, "tonnes": "TONNES", "grade": "AU"},
-             "the index i is 1000.5, no whole number: a coordinate"),
+             "the index i is 1000.5, not an integer: a coordinate"),
         case("hidden rows", {"a.xlsx": book(hidden=(5, 6))}, USUAL,
-             "LOOK AT\n.*sheet `Sheet` has 2 hidden rows, as row 5, and they are read too", truth()),
+             "LOOK AT\n.*sheet `Sheet` has 2 hidden rows, as row 5; they are read too", truth()),
         case("merged cells", {"a.xlsx": book(merged="F4:F9")}, USUAL,
-             "cells F4:F9 are merged, and the first one alone has a value"),
+             "cells F4:F9 are merged, so only the first one has a value"),
         case("shares of equal parts", {"a.csv": PARTIAL},
              {**USUAL, "tonnes": "", "density": "SG", "share": "PARTIAL", "merge": True}, "",
              truth(kilograms=by_density)),
         case("shares that are more than a block", {"a.csv": PARTIAL.replace(b",0.5,", b",0.8,")},
              {**USUAL, "tonnes": "", "density": "SG", "share": "PARTIAL", "merge": True},
-             "are more than the whole block, by their volumes or shares, of one 1.6 times that"),
+             "are more than the complete block, by their volumes or shares, of one 1.6 times that"),
         case("waste of density 0", {"a.csv": WASTE.encode()},
              {**USUAL, "tonnes": "", "density": "SG"},
-             r"(?s)of these \d+ lie below rock with a density of 0, as a.csv: line \d+: voids\? Waste"
-             r".*LOOK AT\n- \d+ places below a block have none, .* rock without tonnes",
+             r"(?s)of these \d+ are below rock with a density of 0, as a.csv: line \d+: voids\? Waste"
+             r".*LOOK AT\n- \d+ positions below a block have none, .* does rock have no tonnes",
              truth(kilograms=lambda b: None if b.grade is None else by_density(b))),
         case("a second header with other columns", {"a.csv": OTHER_ORDER.encode()}, USUAL,
-             "a header stands again, with `AU` where the first one has `TONNES`"),
+             "the header is repeated, with `AU` where the first one has `TONNES`"),
         case("Ctrl-Z", {"a.csv": (PLAIN + "\x1a\n").encode()}, USUAL, "Ctrl-Z, the end mark of DOS"),
         case("a zero byte", {"a.csv": (PLAIN + "\0\n").encode()}, USUAL, "a zero byte"),
         case("Micromine's own form", {"a.dat": b"THIS   6 VARIABLES\nEAST N 12 3\nNORTH N 12 3\n"
@@ -178,10 +178,10 @@ def mistaken_exports() -> list[Export]:
              {"encoding": "cp1251"}),
         case("units in cells", {"a.csv": table(HEAD.replace("TONNES", "SG"), lambda b: ",".join(
             [*usual(b)[:3], f"{(b.density or 20000) / 1e4:.2f} t/m3", *usual(b)[4:]])).encode()},
-             {**USUAL, "tonnes": "", "density": "SG"}, "a unit in the cell. Take units out"),
+             {**USUAL, "tonnes": "", "density": "SG"}, "a unit in the cell. Remove units"),
         case("a word before each number", {"a.csv": table(HEAD, lambda b: ",".join(
             [*usual(b)[:2], f"RL {b.z}.5", *usual(b)[3:]])).encode()}, USUAL,
-             "the column Z has `RL 300.5`, and 980 rows so: a word before each number"),
+             "the column Z has `RL 300.5`, as 980 rows do: a word before each number"),
         case("degrees", {"a.csv": table(HEAD, lambda b: ",".join(
             [f"{117.5 + b.i * 2e-4:.6f}", f"{-22.3 + b.j * 2e-4:.6f}", *usual(b)[2:]])).encode()},
              USUAL, "x and y are degrees"),

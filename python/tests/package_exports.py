@@ -1,5 +1,5 @@
 """More exports of the mine of `exports`: kinds that failed once, and what mining packages
-write. One that no arguments can read has no rows, and `refused` names its cause."""
+write. One that no arguments can read has no rows, and `rejected` names its cause."""
 from __future__ import annotations
 
 import datetime
@@ -32,9 +32,9 @@ def book(sheets: dict[str, list[list]], shown: Optional[dict[str, str]] = None) 
         for letter, look in (shown or {}).items():
             for cell in page[letter][1:]:
                 cell.number_format = look
-    told = io.BytesIO()
-    made.save(told)
-    return told.getvalue()
+    message = io.BytesIO()
+    made.save(message)
+    return message.getvalue()
 
 
 def cells(block: Block) -> list:
@@ -77,15 +77,15 @@ def sizes_exports() -> Iterable[Export]:
     text = "\n".join(lines) + "\n"
     yield Export("Vulcan, blocks of three parents' size beside small ones",
                  {"a.csv": text.encode()}, words, rows, within=(1, 1),
-                 told=(f"{len(wide)} rows take several places, and are cut into {3 * len(wide)} "
-                       "parts", "sizes of rows are those of dim_x, dim_y, dim_z"),
-                 refused="dim_x, dim_y, dim_z.*--parents", first={"parents": ""})
+                 message=(f"{len(wide)} rows take several places, and are cut into {3 * len(wide)} "
+                          "parts", "sizes of rows come from dim_x, dim_y, dim_z"),
+                 rejected="dim_x, dim_y, dim_z.*--parents", first={"parents": ""})
     yield Export("the same with parents of another size, which blocks cross",
                  {"a.csv": text.encode()}, {**words, "parents": "40,20,10"}, {},
-                 refused="the block goes beyond its parent along x")
+                 rejected="the block extends beyond its parent along x")
     yield Export("the same, named, with a corner that is a centroid", {"a.csv": text.encode()},
                  {**words, "sub_size": "dim_x,dim_y,dim_z", "corner": "1000,1990,295"}, {},
-                 refused="goes beyond its parent along x, .* is --corner another")
+                 rejected="extends beyond its parent along x, .* is --corner wrong")
 
     lines = ["XC,YC,ZC,XINC,YINC,ZINC,TONNES,AU,ZONE"]
     for block in MINE:
@@ -99,13 +99,13 @@ def sizes_exports() -> Iterable[Export]:
             lines.append(f"{block.x},{block.y},{block.z},20,20,10,{','.join(usual(block)[3:])}")
     yield Export("Datamine, sub-blocks in thirds with XINC", {"a.csv": "\n".join(lines).encode()},
                  {**USUAL, "x": "XC", "y": "YC", "z": "ZC", "parents": "20,20,10"}, truth(),
-                 refused="XINC, YINC, ZINC.*--parents", first={"parents": ""})
+                 rejected="XINC, YINC, ZINC.*--parents", first={"parents": ""})
 
     text = table("EAST,NORTH,RL,_EAST,_NORTH,_RL,TONNES,AU,ZONE",
                  lambda b: ",".join([*usual(b)[:3], "20", "20", "10", *usual(b)[3:]]))
     yield Export("Micromine, sizes as _EAST", {"a.csv": text.encode()},
                  {**USUAL, "x": "EAST", "y": "NORTH", "z": "RL"}, truth(),
-                 refused="_EAST, _NORTH, _RL has sizes along x of 20", first={"size": "40,20,10"})
+                 rejected="_EAST, _NORTH, _RL has sizes along x of 20", first={"size": "40,20,10"})
 
     corners = ["X,Y,Z,TONNES,AU,ZONE"]
     for block in MINE:
@@ -121,8 +121,8 @@ def sizes_exports() -> Iterable[Export]:
     yield Export("the same with some rows twice",
                  {"a.csv": "\n".join([*corners, *corners[300:340]]).encode()},
                  {**USUAL, "parents": "20,20,10", "corner": "990,1990,295", "drop_repeats": True},
-                 truth(), told=("left out: 40 rows that are the same",),
-                 refused="40 rows are the same as an earlier one.*--drop-repeats takes each once",
+                 truth(), message=("omitted: 40 rows that equal",),
+                 rejected="40 rows equal an earlier one.*--drop-repeats counts each once",
                  first={"drop_repeats": False})
 
     rock = [b for b in MINE if b.is_rock]
@@ -131,40 +131,40 @@ def sizes_exports() -> Iterable[Export]:
                                      *usual(b)[4:]]), rock)
     yield Export("tonnes of benches of 15 m for 10", {"a.csv": text.encode()}, USUAL,
                  truth(kilograms=lambda b: b.kilograms and b.kilograms * 3 // 2),
-                 told=(r"by SG [\d,]+ t, 0\.66\d+ times that",))
+                 message=(r"by SG [\d,]+ t, 0\.66\d+ times that",))
 
 
 def repeated_exports() -> Iterable[Export]:
     """Repeated rows."""
     both = PLAIN + PLAIN.partition("\n")[2]
     yield Export("each row twice", {"a.csv": both.encode()}, {**USUAL, "drop_repeats": True},
-                 truth(), refused="--drop-repeats takes each once", first={"drop_repeats": False})
+                 truth(), rejected="--drop-repeats counts each once", first={"drop_repeats": False})
     yield Export("each row twice, and --merge", {"a.csv": both.encode()}, {**USUAL, "merge": True},
-                 {}, refused="each? .*--drop-repeats|are the same as an earlier one")
+                 {}, rejected="each? .*--drop-repeats|equal an earlier one")
     parts = {name: table(HEAD, lambda b: ",".join(usual(b)), [b for b in MINE if low <= b.i < high])
              for name, low, high in (("a.csv", 0, 9), ("b.csv", 6, NX))}
     files = {name: text.encode() for name, text in parts.items()}
     yield Export("exports that overlap", files, {**USUAL, "drop_repeats": True}, truth(),
-                 told=("rows that are the same as an earlier one",), refused=r"b.csv: line \d+ .* "
-                 r"repeats a.csv: line \d+.*--drop-repeats takes each once",
+                 message=("rows that equal an earlier one",), rejected=r"b.csv: line \d+ .* "
+                 r"repeats a.csv: line \d+.*--drop-repeats counts each once",
                  first={"drop_repeats": False})
     newer = table(HEAD, lambda b: ",".join([*usual(b)[:3], known(b.kilograms and b.kilograms + 7000,
                                                                  3, "-99"), *usual(b)[4:]]),
                   [b for b in MINE if b.i > 5])
     yield Export("exports that overlap, of two versions",
                  {"a.csv": files["a.csv"], "b.csv": newer.encode()}, USUAL, {},
-                 refused="each is a whole block, as of exports that overlap or of two versions")
+                 rejected="each is a complete block, as of exports that overlap or of two versions")
     yield Export("the same and --merge", {"a.csv": files["a.csv"], "b.csv": newer.encode()},
                  {**USUAL, "merge": True}, {},
-                 refused="so each row is a whole block, .* would count twice")
+                 rejected="so each row is a complete block, .* would count twice")
     halves = "".join(
         f"{','.join(usual(b)[:3])},{dec(b.kilograms // 2, 3)},{known(b.grade, 6, '')},{b.zone}\n"
         * 2 for b in MINE if b.is_rock)
     yield Export("equal halves of blocks", {"a.csv": f"{HEAD}\n{halves}".encode()},
                  {**USUAL, "merge": True},
                  truth(kilograms=lambda b: b.kilograms and b.kilograms // 2 * 2),
-                 told=(r"are sums of 2 to 2, and weigh 2\.\d+ to 2\.\d+ t/m3",),
-                 refused="if rows stand twice, --drop-repeats", first={"merge": False})
+                 message=(r"are sums of 2 to 2, and weigh 2\.\d+ to 2\.\d+ t/m3",),
+                 rejected="if rows are repeated, --drop-repeats", first={"merge": False})
 
 
 def workbook_exports() -> Iterable[Export]:
@@ -173,34 +173,34 @@ def workbook_exports() -> Iterable[Export]:
                "Notes": [["by a geologist"]],
                "Benches 5-7": [HEADER, *(cells(b) for b in MINE if b.k > 3)]}
     yield Export("a workbook with benches on two sheets", {"a.xlsx": book(benches)}, USUAL, truth(),
-                 told=("sheet `Benches 1-4` .*left out: `Notes`", "sheet `Benches 5-7`"))
+                 message=("sheet `Benches 1-4` .*omitted: `Notes`", "sheet `Benches 5-7`"))
     other = {**benches,
              "Benches 5-7": [["X", "Y", "Z", "ZONE", "TONNES", "AU"],
                              *([*cells(b)[:3], b.zone, *cells(b)[3:5]] for b in MINE if b.k > 3)]}
     yield Export("two sheets with headers that differ", {"a.xlsx": book(other)}, USUAL, {},
-                 refused="below headers that differ: give them one header")
+                 rejected="below different headers: give them one header")
     bare = {**benches, "Benches 5-7": [cells(b) for b in MINE if b.k > 3]}
     yield Export("a second sheet without a header", {"a.xlsx": book(bare)}, USUAL, {},
-                 refused=r"the sheet `Benches 5-7` has [\d,]+ rows of numbers .* and no header")
+                 rejected=r"the sheet `Benches 5-7` has [\d,]+ rows of numbers .* but no header")
     percent = {"Blocks": [HEADER, *([*cells(b)[:4], None if b.grade is None else b.grade / 1e8,
                                      b.zone] for b in MINE)]}
     yield Export("cells that are shown as 1.20 %", {"a.xlsx": book(percent, {"E": "0.00%"})},
                  {**USUAL, "grade": "AU %"},
                  truth(grade=lambda b: None if b.grade is None else b.grade * 10_000),
-                 within=(0, 1), told=("AU is shown in percent",), refused=r"cell E\d+: the column "
+                 within=(0, 1), message=("AU is shown in percent",), rejected=r"cell E\d+: the column "
                  r"AU has `[\d.]+%`: give the unit, as --grade 'AU %'", first={"grade": "AU"})
     dated = [HEADER, *map(cells, MINE)]
     dated[20] = [*dated[20][:4], datetime.datetime(2024, 3, 1), dated[20][5]]
     yield Export("a date in a workbook", {"a.xlsx": book({"Blocks": dated})}, USUAL, {},
-                 refused="sheet `Blocks`, cell E21: the column AU has `2024-03-01T.*made a date")
+                 rejected="sheet `Blocks`, cell E21: the column AU has `2024-03-01T.*to a date")
     wrong = [HEADER, *map(cells, MINE)]
     wrong[30] = [*wrong[30][:3], "#DIV/0!", *wrong[30][4:]]
     yield Export("an error in a workbook", {"a.xlsx": book({"Blocks": wrong})}, USUAL, {},
-                 refused="cell D31: the column TONNES has `#DIV/0!`, an error")
+                 rejected="cell D31: the column TONNES has `#DIV/0!`, an error")
     lazy = [HEADER, *map(cells, MINE)]
     lazy[40] = [*lazy[40][:3], "=4000*2.7", *lazy[40][4:]]
     yield Export("a formula that was never computed", {"a.xlsx": book({"Blocks": lazy})}, USUAL, {},
-                 refused="cell D41: .* a formula that no program has computed")
+                 rejected="cell D41: .* a formula that no program has computed")
     codes = {"Blocks": [["X", "Y", "Z", "ROCK", "AU", "ZONE"],
                         *([*cells(b)[:3], {"OX": 10.0, "SU": 20.0}.get(b.rock, 0.0), *cells(b)[4:]]
                           for b in MINE)]}
@@ -231,7 +231,7 @@ def share_exports() -> Iterable[Export]:
     yield Export("GEMS, percents of ore, waste and air", {"a.csv": text.encode()}, words,
                  truth(kilograms=mass, grade=lambda b: None if b.grade is None or not mass(b)
                        else round(b.grade * b.density * 4 * parts(b)[0] / mass(b))), within=(1, 1),
-                 told=("are part ore and part waste", "blocks are air in part"), refused="a part "
+                 message=("are part ore and part waste", "blocks are partly air"), rejected="a part "
                  "of the block is air.* give --waste-share", first={"waste_share": ""})
 
     text = table("XC,YC,ZC,TOPO,SG,AU,ZONE", lambda b: ",".join(
@@ -242,7 +242,7 @@ def share_exports() -> Iterable[Export]:
                     else b.density * 4 * ((b.i * 7 + b.j) % 4 * 25 + 25 if b.rock == "OX" else 100))
     yield Export("Surpac, the topography -99 for whole", {"a.csv": text.encode()},
                  {**words, "share": "where(missing(TOPO), 100, TOPO) %"}, by_topo, within=(1, 0),
-                 refused="the share is missing, TOPO being `-99`, .*--share "
+                 rejected="the share is missing, TOPO being `-99`, .*--share "
                  r"'where\(missing\(TOPO\), 100, TOPO\) %'", first={"share": "TOPO %"})
     yield Export("the same by a condition of one's own", {"a.csv": text.encode()},
                  {**words, "share": "if(TOPO == -99, 100, TOPO)/100"}, by_topo, within=(1, 0))
@@ -255,7 +255,7 @@ def share_exports() -> Iterable[Export]:
                  {**USUAL, "tonnes": "", "density": "2.65",
                   "where": ['ROCK != "AIR" and ROCK != "void"']},
                  truth(kilograms=lambda b: 10_600_000 if b.is_rock else None),
-                 told=("in ROCK a filter takes for one: `AIR`, `Air`, `air`",))
+                 message=("a filter does not distinguish in ROCK: `AIR`, `Air`, `air`",))
 
     text = table("X,Y,Z,ROCK,AU,ZONE",
                  lambda b: ",".join([*usual(b)[:3], {"OX": "10.0", "SU": "20.0"}.get(b.rock, "0.0"),
@@ -263,7 +263,7 @@ def share_exports() -> Iterable[Export]:
     yield Export("codes of rock as 10.0", {"a.csv": text.encode()},
                  {**USUAL, "tonnes": "", "density_by": "ROCK: 10=2.45, 20=2.75"},
                  truth(kilograms=lambda b: {"SU": 11_000_000, "OX": 9_800_000}.get(b.rock)),
-                 refused=r"--density-by has none of .*`20` \(",
+                 rejected=r"--density-by has none of .*`20` \(",
                  first={"density_by": "ROCK: 11=2.4"})
 
     text = table("X,Y,Z,ROCK,AU,MINED,CLASS,ZONE",
@@ -280,7 +280,7 @@ def share_exports() -> Iterable[Export]:
                   "where": ["MINED == 0", "CLASS in [1, 2, 3]"]},
                  truth([b for b in MINE if b.k <= 3 and (b.i + b.j) % 4 < 3],
                        kilograms=lambda b: {"SU": 11_000_000, "OX": 9_800_000}.get(b.rock)),
-                 told=("rows by the filter",))
+                 message=("rows by the filter",))
 
 
 def placed_exports() -> Iterable[Export]:
@@ -290,8 +290,8 @@ def placed_exports() -> Iterable[Export]:
                  [b for b in MINE if b.k > 1])
     yield Export("benches from the top, the lowest not exported", {"a.csv": text.encode()},
                  {**INDICES, "from_top": True, "blocks": f"{NX},{NY},{NZ}"},
-                 truth([b for b in MINE if b.k > 1]), told=("7 is the lowest, at z = 300",),
-                 refused="--from-top .*needs --blocks", first={"blocks": ""})
+                 truth([b for b in MINE if b.k > 1]), message=("7 is the lowest, at z = 300",),
+                 rejected="--from-top requires .*--blocks", first={"blocks": ""})
     text = table("LEVEL,ROW,COLUMN,TONNES,AU,ZONE",
                  lambda b: ",".join([str(NZ - b.k), str(NY - b.j), str(b.i + 1),
                                      *usual(b, "")[3:]]), [b for b in MINE if b.j > 0])
@@ -299,21 +299,21 @@ def placed_exports() -> Iterable[Export]:
                  {**INDICES, "i": "COLUMN", "j": "ROW", "k": "LEVEL", "from_top": True,
                   "from_north": True, "blocks": f"{NX},{NY},{NZ}"},
                  truth([b for b in MINE if b.j > 0]),
-                 told=("rows count from the north: 10 is the southernmost, at y = 2000",))
+                 message=("rows count from the north: 10 is the southernmost, at y = 2000",))
     tall = sorted(MINE, key=lambda b: (b.i, b.j, b.k))
     text = table("TONNES,AU,ZONE", lambda b: ",".join(usual(b)[3:]), tall)
     words = {"blocks": f"{NX},{NY},{NZ}", "first": "1000,2000,300", "size": "20,20,10",
              "tonnes": "TONNES", "grade": "AU", "zone": ["ZONE"]}
     yield Export("a list with z running first", {"a.csv": text.encode()},
-                 {**words, "order": "z,y,x"}, truth(), refused="is it --order z,y,x",
+                 {**words, "order": "z,y,x"}, truth(), rejected="is it --order z,y,x",
                  first={"order": "x,y,z"})
     text = HEAD + "\n" + "1,2,3,4,5,6\n" + PLAIN.partition("\n")[2]
     yield Export("a row of column numbers", {"a.csv": text.encode()}, USUAL, truth(),
-                 told=("1 between it and the first number left out",))
+                 message=("1 between it and the first number omitted",))
     yield Export("a row without a place, -99",
                  {"a.csv": (PLAIN + "-99,-99,-99,10800,1.5,east\n").encode()},
-                 {**USUAL, "where": ["X > 0"]}, truth(), refused="x is -99 in a.csv: line 982 "
-                 r"\(-99, -99, -99, 10800, 1.5, east\): a mark of what is missing",
+                 {**USUAL, "where": ["X > 0"]}, truth(), rejected="x is -99 in a.csv: line 982 "
+                 r"\(-99, -99, -99, 10800, 1.5, east\): does it mean a missing value",
                  first={"where": []})
     text = table("X;Y;Z;KG;ZONE;AU", lambda b: ";".join(
         [f"{b.x - 500:,}".replace(",", "."), f"{b.y:,}".replace(",", "."), str(b.z),
@@ -322,7 +322,7 @@ def placed_exports() -> Iterable[Export]:
                  {**USUAL, "tonnes": "KG kg", "thousands": "."},
                  truth(grade=lambda b: None if b.grade is None else b.grade // 1_000_000
                        * 1_000_000, place=lambda b: (1000 * b.x - 500_000, 1000 * b.y, 1000 * b.z)),
-                 grid="500,2000,300,20,20,10", refused="a decimal point, or one between thousands",
+                 grid="500,2000,300,20,20,10", rejected="a decimal point, or one between thousands",
                  first={"thousands": ""})
     text = table("X cm;Y cm;Z cm;RHO kg/m3;AU;ZONE",
                  lambda b: ";".join([str(b.x * 100), str(b.y * 100), str(b.z * 100),
@@ -343,7 +343,7 @@ def no_grid_exports() -> Iterable[Export]:
         return ",".join([f"{1000 + x * along + z * across:.3f}", str(block.y),
                          f"{300 - x * across + z * along:.3f}", *usual(block)[3:]])
     yield Export("a model that dips", {"a.csv": table(HEAD, dipping).encode()}, USUAL, {},
-                 refused=r"Neighbours lie 1[12]\.\d\d degrees off the vertical, so the model dips")
+                 rejected=r"Neighbours are 1[12]\.\d\d degrees off the vertical, so the model dips")
 
     lines = [HEAD]
     for block in MINE:
@@ -355,7 +355,7 @@ def no_grid_exports() -> Iterable[Export]:
         else:
             lines.append(",".join(usual(block)))
     yield Export("an infill grid", {"a.csv": "\n".join(lines).encode()}, USUAL, {},
-                 refused="Most rows lie along x on a grid of 20 through 1000, and 504 beside it, "
+                 rejected="Most rows are along x on a grid of 20 through 1000, and 504 are off it, "
                  r"as a.csv: line \d+ \(1115, .*two grids, as an infill")
 
     lines = [HEAD]
@@ -366,7 +366,7 @@ def no_grid_exports() -> Iterable[Export]:
         else:
             lines.append(",".join(usual(block)))
     yield Export("super-blocks of 2 x 2 x 2", {"a.csv": "\n".join(lines).encode()}, USUAL, {},
-                 refused="on a grid of 20 through 1000, and 12 beside it, .*super-blocks")
+                 rejected="on a grid of 20 through 1000, and 12 are off it, .*super-blocks")
 
     lines = ["X,Y,Z,THICKNESS,TONNES,AU,ZONE"]
     for i in range(NX):
@@ -377,48 +377,48 @@ def no_grid_exports() -> Iterable[Export]:
                 lines.append(f"{1000 + 20 * i},{2000 + 20 * j},{floor:.3f},{2 + 0.1 * i:.2f},"
                              f"1200,1.0,seam{seam}")
     yield Export("seams with a thickness by column", {"a.csv": "\n".join(lines).encode()}, USUAL,
-                 {}, refused="are these seams or a surface, with a thickness by column")
+                 {}, rejected="are these seams or a surface, with a thickness by column")
 
     means = ("Minimum,1000,2000,300,10000,0.1,\nMaximum,1260,2180,360,12000,4,\n"
              "Mean,1130.000,2090.000,330.000,10800,0.9,\n")
     text = table("NAME," + HEAD, lambda b: "b," + ",".join(usual(b))) + means
     yield Export("rows of minima, maxima and means", {"a.csv": text.encode()}, USUAL, {},
-                 refused=r"line 982 \(Minimum, .* and a.csv: line 983 \(Maximum, .*least and the "
-                 "greatest")
+                 rejected=r"line 982 \(Minimum, .* and a.csv: line 983 \(Maximum, .*smallest and the "
+                 "largest")
     yield Export("the same without a name",
                  {"a.csv": (PLAIN + "\n".join(line.partition(",")[2]
                                               for line in means.splitlines())).encode()}, USUAL, {},
-                 refused="are they rows of minima, maxima or means")
+                 rejected="are they rows of minima, maxima or means")
 
     glued = ("X Y Z TONNES AU "
              "ZONE\n" + "".join(f"{b.x:8.2f}{b.y:7.2f}{b.z:8.2f}{(b.kilograms or 0) / 1000:12.3f} "
                                 f"{(b.grade or 0) / 1e6:8.6f} {b.zone}\n" for b in MINE))
     yield Export("columns that are glued", {"a.txt": glued.encode()}, USUAL, {},
-                 refused="numbers without a blank between them")
+                 rejected="numbers without a blank between them")
 
     benches = [HEAD]
     for k in range(NZ):
         benches += [f"Bench {k + 1}", *(",".join(usual(b)) for b in MINE if b.k == k)]
     yield Export("headings of benches between rows", {"a.csv": "\n".join(benches).encode()}, USUAL,
-                 {}, refused="`Bench 1` is a heading between rows")
+                 {}, rejected="`Bench 1` is a heading between rows")
     yield Export("the same in a table",
                  {"a.csv": "\n".join(line + "," * 5 if "Bench" in line else line
                                      for line in benches).encode()}, USUAL, {},
-                 refused="the column X has `Bench [12]`, a heading between rows")
+                 rejected="the column X has `Bench [12]`, a heading between rows")
 
     parcels = "".join(f"{b.i + 1} {b.j + 1} {b.k + 1} 1 {(b.kilograms or 0) / 1000:.3f} 1.0 "
                       f"1.0\nROCK {(b.kilograms or 0) / 1000:.3f} {(b.grade or 0) / 1e6:.4f}\n"
                       for b in MINE)
     yield Export("Whittle, blocks and their parcels", {"a.mod": parcels.encode()},
                  {**INDICES, "names": ["I", "J", "K", "N", "TONNES", "AU", "ZONE"]}, {},
-                 refused="lines of 3 and 7 cells take turns, .*Whittle")
+                 rejected="lines of 3 and 7 cells alternate, .*Whittle")
 
 
 def package_exports() -> Iterable[Export]:
     """What packages write."""
     text = "# Leapfrog block model\n# origin: 990 1990 295\n# size: 20 20 10\n" + PLAIN
     yield Export("Leapfrog, comments above the header", {"a.csv": text.encode()}, USUAL, truth(),
-                 told=("header in line 4",))
+                 message=("header in line 4",))
     text = table("Y,X,Z,TONNES,AU,ZONE,",
                  lambda b: ",".join([str(b.y), str(b.x), *usual(b)[2:]]) + ",")
     yield Export("Surpac, y before x, commas at the ends of lines", {"a.csv": text.encode()}, USUAL,
@@ -452,17 +452,17 @@ def package_exports() -> Iterable[Export]:
     yield Export("grades with signs of percent", {"a.csv": text.encode()},
                  {**USUAL, "grade": "CU %"},
                  truth(grade=lambda b: None if b.grade is None else b.grade * 10_000),
-                 within=(0, 1), refused="has `[\\d.]+%`: give the unit", first={"grade": "CU"})
+                 within=(0, 1), rejected="has `[\\d.]+%`: give the unit", first={"grade": "CU"})
     text = table("X,Y,Z,TONNES,AU,ZONE",
                  lambda b: ",".join([*usual(b)[:5], "-99" if b.zone == "oxide" else b.zone]))
     yield Export("a zone that is not known", {"a.csv": text.encode()}, USUAL,
                  truth(zone=lambda b: "-99" if b.zone == "oxide" else b.zone),
-                 told=("blocks have the zone `-99`, a mark",))
+                 message=("blocks have the zone `-99`, which may mean a missing value",))
     deep = [b for b in MINE if not (b.i > 9 and b.k < 2)]
     yield Export("deep rock lost in the east",
                  {"a.csv": table(HEAD, lambda b: ",".join(usual(b)), deep).encode()}, USUAL,
                  truth(deep),
-                 told=(f"{sum(b.i > 9 and b.k < 2 for b in MINE)} below the lowest have none",))
+                 message=(f"{sum(b.i > 9 and b.k < 2 for b in MINE)} below the lowest have none",))
     text = table("X,Y,Z,TONNES,AU,CU,ZONE",
                  lambda b: ",".join([*usual(b)[:5], known(b.grade and b.grade // 5, 6, "-99"),
                                      b.zone]))

@@ -110,7 +110,7 @@ def test_a_line_without_a_share_has_the_complete_block(base, tmp_path, capsys):
                                                                 ["dump", "1"]]
     schedule = written(tmp_path / "schedule", [f"{split} 1 1 0.25", f"{whole} 0"])
     assert main(["back", base + ".plan", base, schedule, "--out", str(tmp_path / "out")]) == 2
-    assert "line 2: no line of a pit or a schedule" in capsys.readouterr().err
+    assert "line 2: it is not a line of a pit or a schedule" in capsys.readouterr().err
 
 
 def export_of(kind):
@@ -149,13 +149,13 @@ def test_every_row_of_the_export_has_what_its_block_has(base, tmp_path, capsys, 
                  str(tmp_path / "out")]) == 0
     assert (f"{len(lines) - 1:,} rows, of which {rows * len(ROWS):,} are "
             "blocks" in capsys.readouterr().out)
-    told = (tmp_path / "out").read_text().splitlines()
-    assert told[0] == lines[0] + ";block;mined"
-    assert [line.rsplit(";", 2)[0] for line in told[1:]] == lines[1:]
+    message = (tmp_path / "out").read_text().splitlines()
+    assert message[0] == lines[0] + ";block;mined"
+    assert [line.rsplit(";", 2)[0] for line in message[1:]] == lines[1:]
     order = [place for place in reversed(ROWS) for _ in range(rows)]
-    assert [line.rsplit(";", 2)[1:] for line in told[1:-1]] == [
+    assert [line.rsplit(";", 2)[1:] for line in message[1:-1]] == [
         [str(block_number(place)), str(int(place in places))] for place in order]
-    assert told[-1].endswith(";;")
+    assert message[-1].endswith(";;")
 
 
 def test_the_report_worked_out_manually(base, tmp_path, capsys):
@@ -164,15 +164,15 @@ def test_the_report_worked_out_manually(base, tmp_path, capsys):
                        [f"{block_number(place)} {at // 3} {0 if place[2] < 2 else 2}"
                         for at, place in enumerate(places)])
     assert main(["report", base + ".plan", base, schedule]) == 0
-    told = capsys.readouterr().out
+    message = capsys.readouterr().out
     ore, waste = 2 * 10811, 10811 + 10800
     value = 2 * (10811 * 2.5 / 1000 * 0.9 * 60000 - 10811 * 15) - waste * 2
     assert re.search(rf"all +4 +{ore:,}\.0 +2\.5000 +{ore * 2.5 / 1000:.1f} "
-                     rf"+{ore * 2.5 * 0.9 / 1000:.1f} +{waste:,}\.0 +1\.00 +{value:,.2f}\n", told)
+                     rf"+{ore * 2.5 * 0.9 / 1000:.1f} +{waste:,}\.0 +1\.00 +{value:,.2f}\n", message)
     discounted = value + 10800 * 2 - 10800 * 2 / 1.1
-    assert f"{discounted:,.2f}\n" in told
-    assert "1 of 4 blocks are at a side, and 1 on the lowest bench" in told and re.search(
-        "west +1 blocks", told)
+    assert f"{discounted:,.2f}\n" in message
+    assert "1 of 4 blocks are at a side, and 1 on the lowest bench" in message and re.search(
+        "west +1 blocks", message)
 
 
 def test_the_report_as_csv_and_workbook_has_the_numbers_of_the_text(base, tmp_path, capsys):
@@ -187,7 +187,7 @@ def test_the_report_as_csv_and_workbook_has_the_numbers_of_the_text(base, tmp_pa
     with pytest.MonkeyPatch.context() as patched:
         patched.chdir(tmp_path)
         assert main(words) == 0
-        told = capsys.readouterr().out
+        message = capsys.readouterr().out
         first = (tmp_path / "report.xlsx").read_bytes()
         assert main(words) == 0 and (tmp_path / "report.xlsx").read_bytes() == first
         with open("report.csv", encoding="utf-8") as file:
@@ -207,7 +207,7 @@ def test_the_report_as_csv_and_workbook_has_the_numbers_of_the_text(base, tmp_pa
     # Each number of the text is in the table, and each of the table in its sheet.
     cells = (cell for row in rows for cell in row.values())
     numbers = {float(cell) for cell in cells if re.fullmatch(r"-?[0-9.]+", cell)}
-    for text in re.findall(r" (-?[0-9,]+\.[0-9]+)(?= |\n)", told):
+    for text in re.findall(r" (-?[0-9,]+\.[0-9]+)(?= |\n)", message):
         number, places = float(text.replace(",", "")), len(text.rpartition(".")[2])
         assert any(abs(number - one) <= 0.51 * 10**-places for one in numbers), text
     assert book.sheetnames == ["benches", "destinations", "periods", "sides"]
@@ -242,13 +242,13 @@ def test_shares_by_period_are_on_the_rows_of_the_export(base, tmp_path, capsys):
     with open(tmp_path / "out", newline="") as file:
         rows = list(csv.DictReader(file, delimiter=";"))
     names = ("mined", "period", "share_0", "share_1")
-    told = {row["block"]: [row[name] for name in names] for row in rows}
-    assert told[str(split)] == ["0.875", "1", "0.125", "0.75"]
-    assert told[str(whole)] == ["1", "0", "1", "0"]
-    assert told[""] == [""] * 4
-    assert sum(row[0] != "0" for row in told.values()) == 3
+    message = {row["block"]: [row[name] for name in names] for row in rows}
+    assert message[str(split)] == ["0.875", "1", "0.125", "0.75"]
+    assert message[str(whole)] == ["1", "0", "1", "0"]
+    assert message[""] == [""] * 4
+    assert sum(row[0] != "0" for row in message.values()) == 3
     pit = written(tmp_path / "pit", [str(split)])
-    for mined, more, wanted in ((pit, onto, "a pit has none"), (schedule, [], "goes with --onto")):
+    for mined, more, wanted in ((pit, onto, "a pit has none"), (schedule, [], "requires --onto")):
         assert main(["back", base + ".plan", base, mined, "--shares", *more]) == 2
         assert wanted in capsys.readouterr().err
 
@@ -267,7 +267,7 @@ def test_sections_are_drawn(base, tmp_path):
 
 
 @pytest.mark.parametrize("change", [lambda lines: lines[:-2], lambda lines: [*lines, "air;1;2;3"]])
-def test_an_export_that_was_changed_since_is_refused(base, tmp_path, capsys, change):
+def test_an_export_that_was_changed_since_is_rejected(base, tmp_path, capsys, change):
     lines, words = export_of("plain")
     export = written(tmp_path / "export.csv", lines)
     assert main(["import", export, *words, "--out", str(tmp_path / "from")]) == 0
@@ -276,7 +276,7 @@ def test_an_export_that_was_changed_since_is_refused(base, tmp_path, capsys, cha
             str(tmp_path / "out")]
     written(tmp_path / "export.csv", change(lines))
     assert main(onto) == 2 and not (tmp_path / "out").exists()
-    assert "export.csv: it is not the file, or no longer, of which" in capsys.readouterr().err
+    assert "export.csv: it is not, or is no longer, the file from which" in capsys.readouterr().err
     written(tmp_path / "export.csv", lines)
     assert main(onto) == 0
 
@@ -290,19 +290,19 @@ def test_mined_blocks_without_a_row_are_reported(base, tmp_path, capsys):
     capsys.readouterr()
     assert main(["back", base + ".plan", base, pit, "--onto", str(tmp_path / "from.json"), "--out",
                  str(tmp_path / "out")]) == 0
-    assert capsys.readouterr().out.endswith("; 2 blocks that are mined have no row\n")
+    assert capsys.readouterr().out.endswith("; 2 mined blocks have no row\n")
 
 
-@pytest.mark.parametrize("words, told", [
-    (["survey", "{plan}", "{base}", "--section", "y=999", "--out", "a.png"], "they lie from 200 to 240 m"),
-    (["survey", "{plan}", "{base}", "--out", "a.bmp"], "ends with none of"),
-    (["back", "{plan}", "{base}", "{bad}"], "line 2: no line of a pit or a schedule"),
-    (["report", "{plan}", "{base}", "{bad}"], "line 2: no line of a pit or a schedule"),
+@pytest.mark.parametrize("words, message", [
+    (["survey", "{plan}", "{base}", "--section", "y=999", "--out", "a.png"], "blocks are from 200 to 240 m"),
+    (["survey", "{plan}", "{base}", "--out", "a.bmp"], "must end with one of"),
+    (["back", "{plan}", "{base}", "{bad}"], "line 2: it is not a line of a pit or a schedule"),
+    (["report", "{plan}", "{base}", "{bad}"], "line 2: it is not a line of a pit or a schedule"),
     (["back", "{plan}", "{base}", "{good}", "--onto", "{good}"],
      "not what `pit-tools import` writes")])
-def test_what_is_wrong_is_reported_in_a_line(base, tmp_path, capsys, words, told):
+def test_what_is_wrong_is_reported_in_a_line(base, tmp_path, capsys, words, message):
     names = dict(plan=base + ".plan", base=base, bad=written(tmp_path / "bad", ["1", "99"]),
                  good=written(tmp_path / "good", ["1"]))
     assert main([word.format(**names) for word in words]) == 2
     error = capsys.readouterr().err
-    assert told in error and error.count("\n") == 1
+    assert message in error and error.count("\n") == 1

@@ -94,7 +94,7 @@ def here(tmp_path, monkeypatch):
 
 
 def way(**how):
-    batch_build.build_told_once.cache_clear()
+    batch_build.build_text_once.cache_clear()
     return Way(os.getcwd(), os.path.abspath("pitc"), **how)
 
 
@@ -121,7 +121,7 @@ def is_accepted():
     return subprocess.run(["sha256sum", "-c", "--quiet", "MANIFEST"]).returncode == 0
 
 
-def left_of(folder="."):
+def remainder_of(folder="."):
     return [name for name in os.listdir(folder) if "making" in name or "unfinished" in name]
 
 
@@ -134,16 +134,16 @@ def test_a_list_without_a_last_line_end_loses_nothing(here):
     assert whole and not batch.failed
     table = [line.split() for line in open("SIZES")]
     assert [row[0] for row in table[1:]] == ["one", "two"]
-    told = dict(zip(table[0], table[2]))
-    assert told | {"bytes": "", "rate": "", "cpit_bound": "", "pcpsp_bound": ""} == {
+    message = dict(zip(table[0], table[2]))
+    assert message | {"bytes": "", "rate": "", "cpit_bound": "", "pcpsp_bound": ""} == {
         "name": "two", "blocks": "6", "arcs": "7", "coefficients": "24", "limits": "4",
         "cpit": "10", "positive": "4", "bytes": "", "periods": "3", "destinations": "3",
         "resources": "2", "rate": "", "tonnes": "16050.000", "pit_blocks": "6",
         "pit_tonnes": "16050.000", "pit_value": "606965.00", "cpit_bound": "", "pcpsp_bound": "",
         "thin_arcs": "-"}
-    assert told["cpit_bound"] == told["pcpsp_bound"] == "606965.00" and told["rate"] == "0.08"
-    assert int(told["bytes"]) == sum(os.path.getsize(f"two.{text}") for text in TEXTS)
-    assert is_accepted() and left_of() == []
+    assert message["cpit_bound"] == message["pcpsp_bound"] == "606965.00" and message["rate"] == "0.08"
+    assert int(message["bytes"]) == sum(os.path.getsize(f"two.{text}") for text in TEXTS)
+    assert is_accepted() and remainder_of() == []
     record = read_record("MANIFEST")
     assert [file.name for file in record.inputs] == ["LIST", "one.plan", "six blocks.csv",
                                                      "two.plan"]
@@ -199,17 +199,17 @@ def test_one_sum_of_modules_has_all_of_them(tmp_path):
 # What it refuses
 
 
-@pytest.mark.parametrize("text, told", [
-    (ONE + ONE, "line 2: `one` comes twice, also in line 1"),
-    (ONE + "./one.plan 'six blocks.csv'\n", "line 2: `one` comes twice"),
-    (ONE + "link/one.plan 'six blocks.csv'\n", "line 2: `link/one` comes twice"),
-    ("one.plan gone.csv\n", "line 1: gone.csv is not there"),
-    ("one.plan .\n", "line 1: . is not there, or is no file"),
-    ("one.plan\n", "line 1: a line is a plan NAME.plan and its zone files"),
-    ("one.txt 'six blocks.csv'\n", "line 1: a line is a plan"),
+@pytest.mark.parametrize("text, message", [
+    (ONE + ONE, "line 2: `one` appears twice, also in line 1"),
+    (ONE + "./one.plan 'six blocks.csv'\n", "line 2: `one` appears twice"),
+    (ONE + "link/one.plan 'six blocks.csv'\n", "line 2: `link/one` appears twice"),
+    ("one.plan gone.csv\n", "line 1: gone.csv is missing"),
+    ("one.plan .\n", "line 1: . is missing, or is not a file"),
+    ("one.plan\n", "line 1: a line must be a plan NAME.plan and its zone files"),
+    ("one.txt 'six blocks.csv'\n", "line 1: a line must be a plan"),
     (ONE + "two.plan 'six blocks.csv\n", "line 2: no closing quotation"),
     (ONE + "two.plan \udcff.csv\n", "line 2: it is not UTF-8"),
-    (ONE + "two.plan 'a\0b.csv'\n", "line 2: a name has a letter that does not print"),
+    (ONE + "two.plan 'a\0b.csv'\n", "line 2: a name has a character that does not print"),
     ("\n", "it has no line"),
     ("one.plan one.blocks\n", "one.blocks would be overwritten by the instance `one`"),
     ("one.plan linked.csv\n", "linked.csv, which is one.blocks, would be overwritten"),
@@ -217,14 +217,14 @@ def test_one_sum_of_modules_has_all_of_them(tmp_path):
     ("one.plan SIZES\n", "SIZES would be overwritten by the batch"),
     ("one.plan RECORD\n", "RECORD would be overwritten by the batch"),
 ])
-def test_a_list_that_would_lose_something_is_refused_before_anything_runs(here, text, told):
+def test_a_list_that_would_lose_something_is_rejected_before_anything_runs(here, text, message):
     for name in ("one.blocks", "SIZES", "RECORD"):
         (here / name).write_text(mines.SIX_ROWS)
     os.symlink("one.blocks", "linked.csv")
     os.link("one.blocks", "other.csv")
     os.symlink(".", "link")
     (here / "LIST").write_bytes(text.encode(errors="surrogateescape"))
-    with pytest.raises(UserError, match=told.replace("(", r"\(")):
+    with pytest.raises(UserError, match=message.replace("(", r"\(")):
         read_list("LIST", others=["RECORD"])
     assert main(["batch", "LIST", "--pitc",
                  "./pitc"]) == 2 and not os.path.exists("BUILD") and not os.path.exists("MANIFEST")
@@ -249,40 +249,40 @@ def test_a_file_of_another_kind_stays(here, capsys, name):
 def test_nothing_is_taken_away_if_pitc_does_not_work(here, capsys):
     run_batch()
     before = {name: read(name) for name in ("MANIFEST", "SIZES", "BUILD", "RECORD", "one.blocks")}
-    for text, told in (("#!/bin/false\n", "--version ends with 1"),
-                       ("#!/no/such\n", "cannot be run: No such file")):
+    for text, message in (("#!/bin/false\n", "--version ends with 1"),
+                          ("#!/no/such\n", "cannot be run: No such file")):
         (here / "broken").write_text(text)
         (here / "broken").chmod(0o755)
         assert main(["batch", "LIST", "--pitc",
-                     "./broken"]) == 2 and told in capsys.readouterr().err
+                     "./broken"]) == 2 and message in capsys.readouterr().err
     assert main(["batch", "LIST", "--pitc",
                  "./gone"]) == 2 and "no program `./gone`" in capsys.readouterr().err
     assert {name: read(name) for name in before} == before
 
 
-@pytest.mark.parametrize("words, told", [
-    (["--jobs", "0"], "--jobs is 1 or more"), (["--part", "3/2"], "`3/2` is no part"),
-    (["--part", "0/2"], "`0/2` is no part"),
-    (["--jobs", "2", "--scheduler", "tcp://127.0.0.1:1"], "goes without --jobs"),
-    (["--join", ".", "--part", "1/2"], "goes without --part"),
-    (["--join", ".", "--continue"], "goes without --continue")])
-def test_words_that_do_not_fit_are_reported(here, capsys, words, told):
+@pytest.mark.parametrize("words, message", [
+    (["--jobs", "0"], "--jobs must be 1 or more"), (["--part", "3/2"], "`3/2` is not a part"),
+    (["--part", "0/2"], "`0/2` is not a part"),
+    (["--jobs", "2", "--scheduler", "tcp://127.0.0.1:1"], "excludes --jobs"),
+    (["--join", ".", "--part", "1/2"], "so it excludes --part"),
+    (["--join", ".", "--continue"], "so it excludes --continue")])
+def test_words_that_do_not_fit_are_reported(here, capsys, words, message):
     (here / "LIST").write_text(ONE)
     assert main(["batch", "LIST", *([] if "--join" in words else ["--pitc", "./pitc"]),
                  *words]) == 2
-    assert told in capsys.readouterr().err and calls() == []
+    assert message in capsys.readouterr().err and calls() == []
 
 
 # A failure leaves no manifest
 
 
-def test_a_plan_that_is_refused_leaves_no_manifest_and_what_was_there(here):
+def test_a_plan_that_is_rejected_leaves_no_manifest_and_what_was_there(here):
     run_batch()
     older = read("two.blocks")
     (here / "two.plan").write_text("refused\n")
     batch, whole = run_batch()
     assert not whole and batch.failed == ["two.plan: pitc compile: pitc: plan row 1: Name"]
-    assert not os.path.exists("MANIFEST") and read("two.blocks") == older and left_of() == []
+    assert not os.path.exists("MANIFEST") and read("two.blocks") == older and remainder_of() == []
     assert len(open("SIZES").readlines()) == 2
 
 
@@ -293,15 +293,15 @@ def test_a_batch_stops_if_nothing_succeeds(here, capsys):
     bad = [f"{name}.plan 'six blocks.csv'\n" for name in ("two", "three", "four")]
     (here / "LIST").write_text("".join(bad))
     words = ["batch", "LIST", "--pitc", "./pitc", "--stop-at", "2"]
-    told = "pitc compile: pitc: plan row 1: Name"
+    message = "pitc compile: pitc: plan row 1: Name"
     assert main(words) == 1
-    assert capsys.readouterr().err == (f"pit-tools batch: two.plan: {told}\n"
-                                       f"pit-tools batch: three.plan: {told}\n"
+    assert capsys.readouterr().err == (f"pit-tools batch: two.plan: {message}\n"
+                                       f"pit-tools batch: three.plan: {message}\n"
                                        "pit-tools batch: stopped: 2 failed, and none succeeded\n")
     (here / "LIST").write_text(ONE + "".join(bad))
     for goes_on in ([], ["--continue"]):
         assert main([*words, *goes_on]) == 1
-        assert capsys.readouterr().err.count(told) == 3
+        assert capsys.readouterr().err.count(message) == 3
     assert calls() == ["one"] and main([*words[:-1], "0"]) == 2
 
 
@@ -353,7 +353,7 @@ def test_a_disk_that_takes_no_more_leaves_no_manifest(here, most, begins):
     assert done.returncode in (
         1, 2) and "File too large" in done.stderr and "Traceback" not in done.stderr
     assert read() == before and is_accepted() if not begins else not os.path.exists("MANIFEST")
-    assert left_of() == []
+    assert remainder_of() == []
 
 
 def environment():
@@ -369,7 +369,7 @@ def held(name=LOCK, how=fcntl.LOCK_EX):
     return file
 
 
-def test_two_batches_in_one_folder_are_refused(here, capsys):
+def test_two_batches_in_one_folder_are_rejected(here, capsys):
     run_batch()
     before = read()
     with held():
@@ -413,7 +413,7 @@ def test_what_is_complete_is_kept_by_its_sums(here, capsys):
     assert whole and calls() == ["one"] and read() != before and is_accepted()
 
 
-def test_what_a_killed_batch_left_next_to_its_tables_goes(here):
+def test_leftovers_of_a_killed_batch_are_removed(here):
     for name in ("MANIFEST.unfinished-7", "SIZES.before-7.12", "RECORD.unfinished-7", "notes",
                  "MANIFESTO.unfinished-7", "MANIFEST.unfinished-x", "RECORD-1-of-2.unfinished-7"):
         (here / name).write_text("x")
@@ -469,7 +469,7 @@ def test_a_batch_that_is_killed_continues_to_the_same_sums(pitc, here, jobs):
             cut_short += ended(process) != 0
             assert not os.path.exists("MANIFEST") or read() == wanted
         assert with_patience([*words, "--continue"]) == 0
-        assert read() == wanted and is_accepted() and left_of() == []
+        assert read() == wanted and is_accepted() and remainder_of() == []
     assert cut_short > 0
     print(f"{cut_short} of {2 * tries} runs were cut short")
 
@@ -541,7 +541,7 @@ def test_processes_end_though_one_ended_with_a_lock(here, monkeypatch):
     with pytest.raises(KeyboardInterrupt):
         batch.run(engine)
     assert time.monotonic() - begun_at < 30 and held_by_none
-    assert not os.path.exists("MANIFEST") and left_of() == []
+    assert not os.path.exists("MANIFEST") and remainder_of() == []
 
 
 def test_a_process_that_is_ended_from_outside_is_reported(here):
@@ -582,20 +582,20 @@ def test_parts_are_joined_to_the_batch_that_one_run_makes(here, folder_of, capsy
                  "--continue"]) == 0 and calls() == [] and read() == wanted
 
 
-@pytest.mark.parametrize("damage, told",
+@pytest.mark.parametrize("damage, message",
                          [(lambda: os.remove("part2/RECORD-2-of-2"), "two.plan: no part has it"),
-                          (lambda: os.remove("part2/two.prec"), "two.plan: part2/two.prec is not "
-                           "the one that part2/RECORD-2-of-2 names"),
+                          (lambda: os.remove("part2/two.prec"), "two.plan: part2/two.prec differs "
+                           "from the one that part2/RECORD-2-of-2 names"),
                           (lambda: shutil.copy("part1/one.prec", "part2/two.upit"),
-                           "two.plan: part2/two.upit is not the one"),
+                           "two.plan: part2/two.upit differs from the one"),
                           (lambda: shutil.copy("one.plan", "two.plan"),
-                           "two.plan: two.plan is not the one that part2/RECORD-2-of-2 names")])
-def test_parts_that_are_incomplete_are_not_joined(here, capsys, damage, told):
+                           "two.plan: two.plan differs from the one that part2/RECORD-2-of-2 names")])
+def test_parts_that_are_incomplete_are_not_joined(here, capsys, damage, message):
     (here / "LIST").write_text(ONE + TWO)
     parts_of(here, 2, "part{}".format)
     damage()
     assert main(["batch", "LIST", "--join", "part1", "part2"]) == 1
-    assert (told in capsys.readouterr().err and not os.path.exists("MANIFEST")
+    assert (message in capsys.readouterr().err and not os.path.exists("MANIFEST")
             and not os.path.exists("one.blocks"))
 
 

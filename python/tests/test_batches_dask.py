@@ -12,7 +12,7 @@ from pit_tools.batches import engines
 from pit_tools.batches.engines import by_dask
 from pit_tools.cli import main
 from pit_tools.errors import UserError
-from test_batches import (environment, here, is_accepted, left_of, plan_named, read,  # noqa: F401
+from test_batches import (environment, here, is_accepted, remainder_of, plan_named, read,  # noqa: F401
                           run_batch)
 
 NAMES = [f"mine{number}" for number in range(12)]
@@ -87,7 +87,7 @@ def test_a_worker_that_is_killed_loses_nothing(cluster):
     made = test_batches.calls()
     assert set(made) == set(NAMES) and len(made) >= len(NAMES)
     assert main(["batch", "LIST", "--pitc", "./pitc",
-                 "--continue"]) == 0 and left_of() == [] and read() == wanted
+                 "--continue"]) == 0 and remainder_of() == [] and read() == wanted
 
 
 def test_a_scheduler_that_is_missing_is_reported(here, capsys):  # noqa: F811
@@ -95,7 +95,7 @@ def test_a_scheduler_that_is_missing_is_reported(here, capsys):  # noqa: F811
     with open("LIST", "w") as file:
         file.write("one.plan 'six blocks.csv'\n")
     assert main(["batch", "LIST", "--pitc", "./pitc", "--scheduler", "tcp://127.0.0.1:1"]) == 2
-    assert ("no scheduler answers at tcp://127.0.0.1:1" in capsys.readouterr().err
+    assert ("no scheduler responds at tcp://127.0.0.1:1" in capsys.readouterr().err
             and not os.path.exists("MANIFEST"))
 
 

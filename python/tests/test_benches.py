@@ -33,7 +33,7 @@ def marked(monkeypatch):
     return os.environ[MARK]
 
 
-def left_of(mark):
+def remainder_of(mark):
     """Returns the processes with this mark, except this one and the interpreters of a test."""
     found = []
     for name in filter(str.isdigit, os.listdir("/proc")):
@@ -48,9 +48,9 @@ def left_of(mark):
 
 def gone(mark, seconds=10):
     end = time.monotonic() + seconds
-    while left_of(mark) and time.monotonic() < end:
+    while remainder_of(mark) and time.monotonic() < end:
         time.sleep(0.05)
-    return not left_of(mark)
+    return not remainder_of(mark)
 
 
 def ran(text, scratch, seconds=20, megabytes=None):
@@ -100,7 +100,7 @@ HIDDEN = ("import os, signal, time\n"
 def test_nothing_of_a_program_stays(tmp_path, marked, last, ended):
     begin = time.monotonic()
     assert ran(HIDDEN + last, tmp_path, 3).ended == ended
-    assert left_of(marked) == [] and time.monotonic() - begin < 30
+    assert remainder_of(marked) == [] and time.monotonic() - begin < 30
 
 
 @pytest.mark.skipif(not os.path.isdir("/proc/self"), reason="no /proc")
@@ -113,7 +113,7 @@ def test_memory_is_that_of_all_processes(tmp_path, marked):
             "time.sleep(600)")
     found = ran(text, tmp_path, 60, 150)
     assert found.ended == "memory limit" and 150 < found.megabytes < 400
-    assert left_of(marked) == []
+    assert remainder_of(marked) == []
 
 
 def test_what_a_program_prints_is_kept_in_part(tmp_path):
@@ -133,7 +133,7 @@ def test_a_program_ends_with_who_waits_for_it(tmp_path, marked):
     waiting = subprocess.Popen([sys.executable, "-c", text],
                                env={**os.environ, "PYTHONPATH": os.pathsep.join(sys.path)})
     end = time.monotonic() + 30
-    while len(left_of(marked)) < 4 and time.monotonic() < end:
+    while len(remainder_of(marked)) < 4 and time.monotonic() < end:
         time.sleep(0.05)
     waiting.send_signal(signal.SIGKILL)
     waiting.wait()
@@ -143,7 +143,7 @@ def test_a_program_ends_with_who_waits_for_it(tmp_path, marked):
 @pytest.mark.parametrize("text, ended", [("", "status 0"), ("time.sleep(600)", "time limit")])
 def test_a_program_that_stops_its_supervisor_ends_all_the_same(tmp_path, marked, text, ended):
     stops = "import os, signal, time\nos.kill(os.getppid(), signal.SIGSTOP)\n"
-    assert ran(stops + text, tmp_path, 5).ended == ended and left_of(marked) == []
+    assert ran(stops + text, tmp_path, 5).ended == ended and remainder_of(marked) == []
 
 
 def test_a_supervisor_that_is_stopped_again_and_again_is_killed(tmp_path, marked, monkeypatch):
@@ -157,16 +157,16 @@ def test_a_supervisor_that_is_stopped_again_and_again_is_killed(tmp_path, marked
 # Commands
 
 
-@pytest.mark.parametrize("text, told", [
-    ("cat {cpit}", "neither {out}"), ("cat {lp} {solutions}", "{solutions} is no place"),
-    ("cat {out:>5}", "{out} is no place"), ("cat {out!r}", "{out} is no place"),
-    ("cat {out", "a brace itself"), ("cat }{out}", "a brace itself"), ("cat {} {out}", "no place"),
-    ("no-such-program {out}", "no program"), ("cat '{out}", "no closing quotation"),
+@pytest.mark.parametrize("text, message", [
+    ("cat {cpit}", "neither {out}"), ("cat {lp} {solutions}", "{solutions} is not a placeholder"),
+    ("cat {out:>5}", "{out} is not a placeholder"), ("cat {out!r}", "{out} is not a placeholder"),
+    ("cat {out", "a literal brace"), ("cat }{out}", "a literal brace"), ("cat {} {out}", "not a placeholder"),
+    ("no-such-program {out}", "is missing"), ("cat '{out}", "no closing quotation"),
     ("", "empty command"), ("name=", "neither {out}"), ("x" * 70_000, "more than")])
-def test_a_command_that_is_none_is_refused(text, told):
+def test_a_command_that_is_none_is_rejected(text, message):
     with pytest.raises(UserError) as error:
         read_solver(text)
-    assert told in str(error.value)
+    assert message in str(error.value)
 
 
 def test_places_are_filled_without_a_shell():
@@ -181,10 +181,10 @@ def test_places_are_filled_without_a_shell():
 @pytest.mark.parametrize("text, place", [
     ('cat "{cpit}" > {out}', "cpit"), ("cat {cpit} > '{out}'", "out"),
     ("sh -c 'cat {out}'", "out"), ('cat {out} > "a {out}"', "out")])
-def test_a_place_within_quotes_of_a_shell_is_refused(text, place):
+def test_a_place_within_quotes_of_a_shell_is_rejected(text, place):
     """Its file would have quotes in its name, or the command would fail, if a path has a
     blank."""
-    with pytest.raises(UserError, match=rf"\{{{place}\}} stands within quotes"):
+    with pytest.raises(UserError, match=rf"\{{{place}\}} is within quotes"):
         read_solver(text, by_shell=True)
     read_solver(text)
     read_solver("cat \"a b\" {cpit} > {out}.new; mv {out}.new {out} # 'it'", by_shell=True)
@@ -198,7 +198,7 @@ def test_a_solver_is_another_one_by_each_of_its_files(tmp_path):
     assert read_solver(command).sum == first != read_solver(command + " -v").sum
     script.write_text("2")
     assert read_solver(command).sum != first
-    with pytest.raises(UserError, match="two solvers are named `cat`"):
+    with pytest.raises(UserError, match="two solvers have the name `cat`"):
         read_solvers(["cat {out}", "cat {out} -v"])
 
 
@@ -316,7 +316,7 @@ def test_what_was_changed_is_run_again(here, capsys):
         file.write("\n")
     assert bench("--continue") == 0 and calls() == NAMES
     assert bench("--continue", "--seconds", "9") == 2 and not os.path.exists("calls")
-    assert "other limits" in capsys.readouterr().err
+    assert "its limits, problem or tool differ" in capsys.readouterr().err
 
 
 def test_the_record_that_was_written_last_counts(here):
@@ -372,17 +372,17 @@ def test_a_bench_stops_if_nothing_succeeds(here, capsys):
     assert bench("--stop-at", "2") == 0 and calls() == ["a1", "c1", "d1", "e1"]
 
 
-@pytest.mark.parametrize("text, told", [("a1\na1.plan\n", "line 2: `a1` comes twice"),
-                                        ("a1 'b\n", "line 1: no closing"), ("\n", "no line"),
-                                        ("none\n", "none.cpit is not there")])
-def test_a_list_that_is_none_is_refused(here, capsys, text, told):
+@pytest.mark.parametrize("text, message", [("a1\na1.plan\n", "line 2: `a1` appears twice"),
+                                           ("a1 'b\n", "line 1: no closing"), ("\n", "no line"),
+                                           ("none\n", "none.cpit is missing")])
+def test_a_list_that_is_none_is_rejected(here, capsys, text, message):
     with open("LIST", "w") as file:
         file.write(text)
-    assert bench() == 2 and told in capsys.readouterr().err and not os.path.exists("calls")
+    assert bench() == 2 and message in capsys.readouterr().err and not os.path.exists("calls")
 
 
 @pytest.mark.parametrize("ending", [".csv", ".parquet", ".svg"])
-def test_a_file_of_another_kind_is_refused_before_any_run(here, capsys, ending):
+def test_a_file_of_another_kind_is_rejected_before_any_run(here, capsys, ending):
     with open(f"mine{ending}", "w") as file:
         file.write("x,y,z,tonnes,grade\n")
     assert bench("--out", "mine") == 2 and not os.path.exists("calls")
@@ -423,13 +423,13 @@ def test_the_table_in_parquet_has_the_rows_of_the_text(here, capsys, monkeypatch
     with open("bench.sums") as file:
         assert "  bench.parquet\n" in file.read()
 
-    def lacks(frame, path=None, index=None):
+    def misses(frame, path=None, index=None):
         raise ImportError("no engine")
-    monkeypatch.setattr(pd.DataFrame, "to_parquet", lacks)
+    monkeypatch.setattr(pd.DataFrame, "to_parquet", misses)
     assert bench("--continue") == 0 and not os.path.exists("bench.parquet")
     assert capsys.readouterr().err == (
-        "pit-tools bench: bench.parquet is not written: no package is there that reads and writes "
-        "Parquet: install pyarrow (python3 -m pip install pyarrow)\n")
+        "pit-tools bench: bench.parquet is not written: no package that reads and writes "
+        "Parquet is installed: install pyarrow (python3 -m pip install pyarrow)\n")
 
 
 def test_the_pit_that_bounds_is_of_the_values_of_the_problem(here, monkeypatch):
@@ -449,7 +449,7 @@ def test_the_pit_that_bounds_is_of_the_values_of_the_problem(here, monkeypatch):
 def test_a_file_that_a_solver_changes_is_reported(here, capsys):
     command = f"bad={sys.executable} -c 'open(\"{{cpit}}\", \"a\").write(\"\\n\")' {{out}}"
     assert main(["bench", "LIST", "--solver", command, "--bounds", "0"]) == 1
-    assert "bad on a1: a file of the instance was changed meanwhile" in capsys.readouterr().err
+    assert "bad on a1: a file of the instance was changed during the run" in capsys.readouterr().err
 
 
 def test_profiles_are_by_the_fewest_seconds():

@@ -28,7 +28,7 @@ from pit_tools.inventories.statements import Known, Statement, read_report
 from pit_tools.pits.back import read_mined
 from pit_tools.pits.files import read_pit
 from pit_tools.plans.file import Grid, plan_of, read_plan
-from pit_tools.plans.words import Purse, Spoken, Told as Words, plan_from, price_of, sides_of
+from pit_tools.plans.words import Explained as Words, Purse, Spoken, plan_from, price_of, sides_of
 from pit_tools.plans.zone_files import read_zone_file
 from pit_tools.schedules.files import read_schedule, read_variables
 from pit_tools.texts import lines
@@ -258,8 +258,8 @@ READERS = {
                        UPIT.replace("NBLOCKS", "{}")),
     "published cpit": (published("CPIT"), "{}", CPIT + "0 0 L {}\n"),
     "published pcpsp": (published("PCPSP"), "{}", PCPSP + "{}\n", PCPSP.replace("0.1", "{}")),
-    "lines of numbers": (lambda path: [tried(lines.numbers_of, piece, [1, 2], "a line")
-                                       for piece in lines.pieces_of(path)],
+    "lines of numbers": (lambda path: [tried(lines.numbers_of, chunk, [1, 2], "a line")
+                                       for chunk in lines.chunks_of(path)],
                          "1 2 1e400\n1 {} 1e300\n", "1 2 1e400\n1 1{}x 1e300\n"),
     "schedule": (lambda path: read_schedule(path, ONE), "{}", "0 0 0 {}\n", "0 0 0 1{}x\n"),
     "mined": (lambda path: read_mined(path, plan_of(PLAN), 1), "{}", "0 0 0 {}\n"),

@@ -50,17 +50,17 @@ def test_each_block_has_the_values_of_the_plan_of_its_zone():
     assert made.cpit.uses.block.tolist() == [1] and made.cpit.uses.amount.tolist() == [2700]
 
 
-@pytest.mark.parametrize("zones, told", [(([0], [0, 1]), "the zone 0 is in two"),
-                                         (([0], []), "no instance is for the zone 1"),
-                                         (([0], [1, 2]), "no block has the zone 2")])
-def test_zones_that_do_not_fit_are_named(zones, told):
+@pytest.mark.parametrize("zones, message", [(([0], [0, 1]), "the zone 0 is in two"),
+                                            (([0], []), "no instance is for the zone 1"),
+                                            (([0], [1, 2]), "no block has the zone 2")])
+def test_zones_that_do_not_fit_are_named(zones, message):
     made = instance(PLAN)
-    with pytest.raises(UserError, match=told):
+    with pytest.raises(UserError, match=message):
         by_zone([(part, made) for part in zones])
 
 
 def test_plans_that_do_not_fit_are_named():
-    with pytest.raises(UserError, match="other periods: 2 and 3"):
+    with pytest.raises(UserError, match="differ in periods: 2 and 3"):
         by_zone([([0], instance(PLAN)), ([1], instance(PLAN.replace("periods,2", "periods,3")))])
 
 
@@ -105,8 +105,8 @@ def test_a_flatter_zone_is_split_by_benches_below_a_steeper_one(tmp_path, monkey
     assert set(map(tuple, flat2[["x", "z"]].to_numpy().tolist())) == {(0, 10_000), (20_000, 10_000),
                                                                       (40_000, 0), (60_000, 0)}
     imported.write("from")
-    told = read_imported("from.json")
-    assert told.benches == {"flat3": 3, "flat2": 2, "flat1": 1} and told.blocks == (4, 3, 5)
+    message = read_imported("from.json")
+    assert message.benches == {"flat3": 3, "flat2": 2, "flat1": 1} and message.blocks == (4, 3, 5)
     with pytest.raises(UserError, match="give two zones"):
         import_export(["a.csv"], Words(x="X", y="Y", z="Z", tonnes="T", grade="AU", zone=["ZONE"],
                                        below=["flat:hard"]))

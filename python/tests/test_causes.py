@@ -52,7 +52,7 @@ def files_of(folder):
     return {name: (folder / name).read_bytes() for name in sorted(os.listdir(folder))}
 
 
-def refused(words, capsys):
+def rejected(words, capsys):
     """Returns the line with which a command rejects its arguments."""
     assert main(words) == 2
     error = capsys.readouterr().err
@@ -62,60 +62,60 @@ def refused(words, capsys):
 
 SECTION = ["survey", "mine.plan", "mine", "--out", "a.png"]
 
-REFUSED = [
+REJECTED = [
     (["plan", "--walls", "mine.plan", "--decimals", "-1"], "--decimals: -1 is not from 0 to 9"),
     (["plan", "--walls", "mine.plan", "--within", "91"], "--within: 91 is not from 0 to 90"),
     (["plan", "--walls", "thin.plan"],
-     "record 1: `0.0004` has more decimals: a size of the grid has 3"),
-    (["plan", "--walls", "vast.plan"], "`1e999999999` is no number"),
-    (["plan", "--walls", "large.plan"], "it has more than 1,048,576 bytes, and so it is no plan"),
-    (["plan", "from.json", "--benches", "1000000000"], "--benches: 1000000000 is no height"),
+     "record 1: `0.0004` has more decimals: a size of the grid has at most 3"),
+    (["plan", "--walls", "vast.plan"], "`1e999999999` is not a number"),
+    (["plan", "--walls", "large.plan"], "it has more than 1,048,576 bytes, so it is not a plan"),
+    (["plan", "from.json", "--benches", "1000000000"], "--benches: 1000000000 is not the height"),
     (["plan", "from.json", "--parts", "10000000"], "--parts: 10000000 is not from 1"),
     (["plan", "deep.json"], "it is not what `pit-tools import` writes"),
     (["pit", "mine", "--plan", "mine.plan", "--K", "²"], "--K: `²` is neither 1 to 20"),
-    (["pit", "mine", "--out", ""], "an empty word stands behind --out"),
-    (["pit", "mine", "--out="], "an empty word stands behind --out"),
-    *[([*words], f"`{words[-1]}` ends in a slash, and names no file") for words in (
+    (["pit", "mine", "--out", ""], "--out has an empty value"),
+    (["pit", "mine", "--out="], "--out has an empty value"),
+    *[([*words], f"`{words[-1]}` ends in a slash, so it names a folder") for words in (
         ["pit", "mine", "--out", "f/"], ["read", "mine", "--out", "f/"],
         ["compile", "--sections", "-", "--out", "f/"],
         ["compile", "--plan", "mine.plan", "one.csv", "--out", "./"],
         ["import", "export.csv", "--x", "X", "--y", "Y", "--z", "Z", "--out", "f/"],
         ["minelib", "--publish", "mine", "--out", "f/"], ["nested", "mine.plan", "mine", "--out", "f/"])],
-    (["read", ""], "an empty word stands behind read"),
+    (["read", ""], "read has an empty value"),
     (["by-zone", "mine:²", "--out", "both"], "give an instance and its zones"),
-    (["deposit", "--size", "²,2,2"], "is no list of whole numbers"),
-    (["deposit", "--size", "20000,2,2"], "a size is up to 10,000 blocks along an axis"),
+    (["deposit", "--size", "²,2,2"], "is not a list of integers"),
+    (["deposit", "--size", "20000,2,2"], "a size is at most 10,000 blocks along an axis"),
     (["deposit", "--size", "9999,9999,9999"], "64,000,000 in all"),
-    (["deposit", "--seed", "9-3"], "a span as 1-100, and not `9-3`"),
+    (["deposit", "--seed", "9-3"], "a range as 1-100, and not `9-3`"),
     (["deposit", "--seed", "1-9999999"], "from 1 to 1000000"),
-    (["deposit", "--name", "é"], "no name `é`: it has 1 to 64 letters"),
-    (["deposit", "--name", "a,b"], "no name `a,b`"),
-    ([*SECTION, "--section", "y=1e300"], "no block lies at y = 1e+300 m"),
-    ([*SECTION, "--section", "y=1e300"], "no block lies at y = 1e+300 m"),
-    ([*SECTION, "--pit", "two"], "two: line 1: `²` is no block"),
+    (["deposit", "--name", "é"], "invalid name `é`: it must have 1 to 64 letters"),
+    (["deposit", "--name", "a,b"], "invalid name `a,b`"),
+    ([*SECTION, "--section", "y=1e300"], "there is no block at y = 1e+300 m"),
+    ([*SECTION, "--section", "y=1e300"], "there is no block at y = 1e+300 m"),
+    ([*SECTION, "--pit", "two"], "two: line 1: `²` is not a block"),
     ([*SECTION, "--pit", "long"], "long: line 1: `999"),
     (["survey", "mine.plan", "mine", "--section", "y=inf"], "`y=inf`: give an axis and metres"),
-    (["survey", "mine.plan", "mine", "--section", "y=1e300"], "no block lies at y = 1e+300 m"),
+    (["survey", "mine.plan", "mine", "--section", "y=1e300"], "there is no block at y = 1e+300 m"),
     (["batch", "LIST", "--options", "'"], "--options: no closing quotation: '"),
     (["batch", "LIST", "--relax", "0"], "--relax: give seconds above 0"),
     (["check-schedule", "mine.cpit", "mine.prec", "two", "--most", "-1"], "--most: -1 is below 0"),
-    (["vary", "mine.plan", "--set", "price=x1e400"], "`x1e400`: `6000000` cannot be multiplied so"),
-    (["vary", "latin.plan", "--set", "K=2"], "record 15: `déchets` is no name"),
-    (["vary", "more.plan", "--set", "K=2"], "more.plan: record 8: 2 cells after `rate`, which takes 1"),
-    (["vary", "short.plan", "--name", "a", "--set", "dump.a.cost=1"], "0 cells after `dump`, which takes 2"),
-    (["vary", "mine.plan", "--set", "K=٣"], "`٣` is no number"),
+    (["vary", "mine.plan", "--set", "price=x1e400"], "`x1e400`: `6000000` cannot be multiplied by it"),
+    (["vary", "latin.plan", "--set", "K=2"], "record 15: `déchets` is not a name"),
+    (["vary", "more.plan", "--set", "K=2"], "more.plan: record 8: 2 cells after `rate`, which needs 1"),
+    (["vary", "short.plan", "--name", "a", "--set", "dump.a.cost=1"], "0 cells after `dump`, which needs 2"),
+    (["vary", "mine.plan", "--set", "K=٣"], "`٣` is not a number"),
     (["minelib", "--to-published", "two", "--ids", "ids", "--out", "out"],
-     "ids: line 2: no block with its published identifier"),
-    (["back", "mine.plan", "mine", "inf.schedule"], "inf.schedule: line 2: no line of a pit"),
+     "ids: line 2: it is not a block with its published identifier"),
+    (["back", "mine.plan", "mine", "inf.schedule"], "inf.schedule: line 2: it is not a line of a pit"),
     (["deposit", "--export", "empty.csv"], "there is no block in empty.csv"),
-    (["deposit", "--export", "far.csv"], "do two groups of them lie far apart?"),
+    (["deposit", "--export", "far.csv"], "are two groups of them far apart?"),
 ]
 
 
-@pytest.mark.parametrize("words, told", REFUSED, ids=[" ".join(words)[:60] for words, _ in REFUSED])
-def test_words_that_cannot_be_right_are_reported_in_a_line(here, capsys, words, told):
+@pytest.mark.parametrize("words, message", REJECTED, ids=[" ".join(words)[:60] for words, _ in REJECTED])
+def test_words_that_cannot_be_right_are_reported_in_a_line(here, capsys, words, message):
     before = files_of(here)
-    assert told in refused(words, capsys)
+    assert message in rejected(words, capsys)
     assert files_of(here) == before
 
 
@@ -126,7 +126,7 @@ def test_words_that_cannot_be_right_are_reported_in_a_line(here, capsys, words, 
                                    ["library", "--seek", "lens1.cpit", "--seconds", "x"]])
 def test_a_number_of_seconds_is_none_below_0_and_none_without_end(here, capsys, words):
     assert main(words) == 2
-    assert capsys.readouterr().err.endswith("is no number from 0 on\n")
+    assert capsys.readouterr().err.endswith("is not a number of 0 or more\n")
 
 
 @pytest.mark.parametrize("option, number", [
@@ -142,7 +142,7 @@ def test_a_cell_of_a_plan_that_is_too_long_is_reported(monkeypatch, tmp_path):
     before = csv.field_size_limit(1000)
     try:
         for read in (grid_and_zones, lambda path: plan_of((tmp_path / "a.plan").read_text(), path)):
-            with pytest.raises(UserError, match="a.plan: behind record 0: field larger"):
+            with pytest.raises(UserError, match="a.plan: after record 0: field larger"):
                 read(str(tmp_path / "a.plan"))
     finally:
         csv.field_size_limit(before)
@@ -151,31 +151,31 @@ def test_a_cell_of_a_plan_that_is_too_long_is_reported(monkeypatch, tmp_path):
 # Exports
 
 
-REFUSED_IMPORTS = [
-    (["--separator", ";;"], "--separator is one sign, as ; or tab, and not `;;`"),
-    (["--separator", "§"], "--separator is one sign"),
-    (["--separator", '"'], "--separator is one sign"),
-    (["--thousands", ".,"], "--thousands is one sign"),
-    (["--decimal", ".,"], "--decimal is a point or a comma"),
+REJECTED_IMPORTS = [
+    (["--separator", ";;"], "--separator must be one character, as ; or tab, not `;;`"),
+    (["--separator", "§"], "--separator must be one character"),
+    (["--separator", '"'], "--separator must be one character"),
+    (["--thousands", ".,"], "--thousands must be one character"),
+    (["--decimal", ".,"], "--decimal must be a point or a comma"),
     (["--decimal", ",", "--thousands", ","], "--decimal and --thousands are both `,`"),
     (["--encoding", "utf-16"], "export.csv: it is not written in utf-16: "),
-    (["--encoding", "hex"], "no encoding `hex`"),
+    (["--encoding", "hex"], "unknown encoding `hex`"),
     (["--size", "inf,10,10"], "--size: give three numbers"),
     (["--size", "1e30,10,10"], "--size: `1e30,10,10` goes beyond 1,000,000,000"),
     (["--first", "-1e30,0,0", "--size", "10,10,10"], "--first: `-1e30,0,0` goes beyond"),
-    (["--blocks", "4.5,2,2"], "--blocks: `4.5,2,2`: numbers of blocks are whole"),
-    (["--x-bearing", "60", "--about", "inf,0"], "--about: give x and y of the point"),
+    (["--blocks", "4.5,2,2"], "--blocks: `4.5,2,2`: numbers of blocks must be integers"),
+    (["--x-bearing", "60", "--about", "inf,0"], "--about: give x and y of the fixed point"),
     (["--grade", 'where(AU > 1, "high", AU)'], "cannot be computed: could not convert string"),
-    (["--grade", '"%9999999999d" % AU'], "a text is compared with others, and nothing is computed"),
+    (["--grade", '"%9999999999d" % AU'], "a text is compared with others, but not computed with"),
     (["--tonnes", "T * 1" + "0" * 400], "cannot be computed: int too large"),
-    (["--tonnes", "+".join(["T"] * 300)], "has more than 200 parts in one another"),
-    (["--tonnes", "+".join(["T"] * 5000)], "T+..` is no formula"),
-    (["--tonnes=" + "-" * 300 + "T"], "has more than 200 parts in one another"),
-    (["--zones", "one-column"], "one-column: its columns have to be `zone`"),
-    (["--zones", "short-row"], "short-row: line 3 has 1 cells, and the first line 2"),
-    (["--zones", "long-row"], "long-row: line 2 has 3 cells, and the first line 2"),
+    (["--tonnes", "+".join(["T"] * 300)], "has more than 200 nested parts"),
+    (["--tonnes", "+".join(["T"] * 5000)], "T+..` is not a formula"),
+    (["--tonnes=" + "-" * 300 + "T"], "has more than 200 nested parts"),
+    (["--zones", "one-column"], "one-column: its columns must be `zone`"),
+    (["--zones", "short-row"], "short-row: line 3 has 1 cells, but the first line 2"),
+    (["--zones", "long-row"], "long-row: line 2 has 3 cells, but the first line 2"),
     (["--zones", "nothing"], "nothing: it is empty"),
-    (["--zones", "latin"], "latin: it is no text in UTF-8"),
+    (["--zones", "latin"], "latin: it is not text in UTF-8"),
     (["--zones", "gone"], "gone: No such file or directory"),
 ]
 
@@ -184,12 +184,12 @@ TABLES = {"one-column": "zone\nwest\n", "short-row": "ZONE,zone\nwest,left\neast
           "latin": "ZONE,zone\nouest,d\udce9p\u00f4t\n"}
 
 
-@pytest.mark.parametrize("words, told", REFUSED_IMPORTS,
-                         ids=[" ".join(words)[:50] for words, _ in REFUSED_IMPORTS])
-def test_what_import_cannot_read_so_is_reported_in_a_line(here, capsys, words, told):
+@pytest.mark.parametrize("words, message", REJECTED_IMPORTS,
+                         ids=[" ".join(words)[:50] for words, _ in REJECTED_IMPORTS])
+def test_what_import_cannot_read_so_is_reported_in_a_line(here, capsys, words, message):
     for name, text in TABLES.items():
         (here / name).write_bytes(text.encode("utf-8", "surrogateescape"))
-    assert told in refused(["import", "export.csv", *WORDS, *words], capsys)
+    assert message in rejected(["import", "export.csv", *WORDS, *words], capsys)
 
 
 def test_an_export_that_was_read_need_not_be_closed(here, monkeypatch):
@@ -215,8 +215,8 @@ def test_a_table_of_zones_may_be_cut_by_any_separator(here, capsys):
 
 def test_a_text_of_another_encoding_than_is_named_is_not_read_with_holes(here, capsys):
     (here / "latin.csv").write_bytes(EXPORT.replace("west", "ouést").encode("latin-1"))
-    told = refused(["import", "latin.csv", *WORDS, "--encoding", "utf-8", "--zone", "ZONE"], capsys)
-    assert "latin.csv: it is not written in utf-8: 'utf-8' codec can't decode byte 0xe9" in told
+    message = rejected(["import", "latin.csv", *WORDS, "--encoding", "utf-8", "--zone", "ZONE"], capsys)
+    assert "latin.csv: it is not written in utf-8: 'utf-8' codec can't decode byte 0xe9" in message
     assert main(["import", "latin.csv", *WORDS, "--encoding", "LATIN1", "--zone", "ZONE"]) == 0
     assert re.search("^ouést +[0-9]", capsys.readouterr().out, re.M)
 
@@ -237,24 +237,24 @@ def test_lines_that_end_with_cr_alone_are_read_in_chunks(here, capsys, monkeypat
     (here / "mac.csv").write_bytes(EXPORT.replace("\n", "\r").encode())
     assert main(["import", "mac.csv", *WORDS]) == 0 and "16 rows read" in capsys.readouterr().out
     (here / "mac.csv").write_bytes((EXPORT + "0,0,20,1\n").replace("\n", "\r").encode())
-    assert "line 18 has 4 cells" in refused(["import", "mac.csv", *WORDS], capsys)
+    assert "line 18 has 4 cells" in rejected(["import", "mac.csv", *WORDS], capsys)
 
 
-@pytest.mark.parametrize("text, told", [("\n" * 150 + EXPORT, "the first 100 lines are blank"),
-                                        ("\n" * 30 + EXPORT.replace("AU", "CU"), "no column `AU`"),
-                                        ("a title\n" + "9" * 5000 + "\nX\n1\n2\n", "no column `Y`")],
+@pytest.mark.parametrize("text, message", [("\n" * 150 + EXPORT, "the first 100 lines are blank"),
+                                           ("\n" * 30 + EXPORT.replace("AU", "CU"), "no column `AU`"),
+                                           ("a title\n" + "9" * 5000 + "\nX\n1\n2\n", "no column `Y`")],
                          ids=["blank", "blank, then another", "a long number"])
-def test_lines_before_a_header_that_is_missing(here, capsys, text, told):
+def test_lines_before_a_header_that_is_missing(here, capsys, text, message):
     (here / "other.csv").write_text(text)
-    assert told in refused(["import", "other.csv", *WORDS], capsys)
+    assert message in rejected(["import", "other.csv", *WORDS], capsys)
 
 
-def test_what_can_be_read_once_alone_is_refused_unread(here, capsys):
+def test_what_can_be_read_only_once_is_rejected_unread(here, capsys):
     os.mkfifo("pipe")
     for read in (read_zone_file, count_lines):
         with pytest.raises(UserError, match="pipe: it is a pipe or a device"):
             read("pipe")
-    assert "pipe: it is a pipe" in refused(["import", "pipe", *WORDS], capsys)
+    assert "pipe: it is a pipe" in rejected(["import", "pipe", *WORDS], capsys)
 
 
 # Workbooks
@@ -294,16 +294,16 @@ def test_a_damaged_workbook_is_read_or_reported_in_a_line(here, capsys):
 def test_a_cell_far_from_all_others_is_reported_and_an_empty_one_is_none(here, capsys, monkeypatch):
     monkeypatch.setattr(workbook, "LEAST_PLACES", 1000)
     (here / "a.xlsx").write_bytes(book_of(EXPORT, XFD3=1.0))
-    assert "reaches XFD3, and most of it is empty: clear" in refused(["import", "a.xlsx", *WORDS], capsys)
+    assert "extends to XFD3, but most of it is empty: clear" in rejected(["import", "a.xlsx", *WORDS], capsys)
     (here / "a.xlsx").write_bytes(book_of(EXPORT, ALL3="", A2000=""))
     assert main(["import", "a.xlsx", *WORDS]) == 0
 
 
-def test_a_workbook_that_grows_beyond_all_measure_is_refused(here, capsys, monkeypatch):
+def test_a_workbook_that_grows_beyond_all_measure_is_rejected(here, capsys, monkeypatch):
     (here / "a.xlsx").write_bytes(book_of(EXPORT))
     monkeypatch.setattr(source, "LEAST_UNPACKED", 1000)
     monkeypatch.setattr(source, "MOST_TIMES", 1)
-    assert "a.xlsx: the workbook unpacks to more than" in refused(["import", "a.xlsx", *WORDS], capsys)
+    assert "a.xlsx: the workbook unpacks to more than" in rejected(["import", "a.xlsx", *WORDS], capsys)
 
 
 # What import stores
@@ -318,13 +318,13 @@ def test_a_workbook_that_grows_beyond_all_measure_is_refused(here, capsys, monke
     ("frame", {"lengths": [1, 1], "turn": None, "unit": "m"}), ("told", 7)])
 def test_a_record_of_an_import_that_was_changed_is_reported(here, capsys, key, value):
     assert main(["import", "export.csv", *WORDS, "--out", "from"]) == 0
-    told = json.loads((here / "from.json").read_text())
-    told[key] = value
-    (here / "from.json").write_text(json.dumps(told))
+    message = json.loads((here / "from.json").read_text())
+    message[key] = value
+    (here / "from.json").write_text(json.dumps(message))
     capsys.readouterr()
     words = ["plan", "from.json", "--price", "58 USD/g", "--mill", "recovery 90 %, cost 15 USD/t"]
-    assert "from.json: it is not the file that from.json.sums names" in refused(words, capsys)
-    error = refused([*words, "--edited"], capsys)
+    assert "from.json: it is not the file that from.json.sums names" in rejected(words, capsys)
+    error = rejected([*words, "--edited"], capsys)
     assert "from.json: it is not what `pit-tools import` writes" in error or "grid: `NaN`" in error
 
 
@@ -377,8 +377,8 @@ def test_blocks_at_other_places_are_not_those_of_the_other_instance(here, capsys
     for ending in ("blocks", "prec", "upit", "pcpsp", "cpit"):
         (here / f"other.{ending}").write_bytes((here / f"mine.{ending}").read_bytes())
     (here / "other.blocks").write_text(text.replace("5 2 0 1", "5 3 0 1"))
-    told = refused(["by-zone", "mine:0", "other:1", "--out", "both"], capsys)
-    assert "the instances are not of the same blocks" in told
+    message = rejected(["by-zone", "mine:0", "other:1", "--out", "both"], capsys)
+    assert "the instances have different blocks" in message
 
 
 # Other programs and folders
@@ -392,18 +392,18 @@ def test_a_mine_in_which_all_grades_pay_or_none_is_surveyed(here, capsys, old, n
     assert "LOOK AT" in capsys.readouterr().out
 
 
-def test_a_model_whose_header_says_no_number_is_reported_by_the_survey(here, capsys):
+def test_a_model_whose_header_has_no_number_is_reported_by_the_survey(here, capsys):
     text = (here / "mine.pcpsp").read_text()
     (here / "mine.pcpsp").write_text(text.replace("DISCOUNT_RATE: 0.08", "DISCOUNT_RATE: x"))
-    told = refused(["survey", "mine.plan", "mine", "mine-0.csv"], capsys)
-    assert "mine.pcpsp: DISCOUNT_RATE is `x`, and no number from 0 to 1" in told
+    message = rejected(["survey", "mine.plan", "mine", "mine-0.csv"], capsys)
+    assert "mine.pcpsp: DISCOUNT_RATE is `x`, not a number from 0 to 1" in message
 
 
 @pytest.mark.parametrize("name, text", [("TABLE", "a b\n1 2\n"), ("TABLE", ""), ("FOUND", "\xff\0"),
                                         ("TABLE", " ".join(library.COLUMNS) + "\n" + "x " * 10 + "x")])
 def test_a_table_of_a_library_that_is_none_is_reported(tmp_path, name, text):
     (tmp_path / name).write_bytes(text.encode("latin-1"))
-    with pytest.raises(UserError, match=f"{name}: it is no {name} of a library"):
+    with pytest.raises(UserError, match=f"{name}: not the {name} of a library"):
         library.table_of(str(tmp_path), name)
 
 

@@ -22,10 +22,10 @@ from pit_tools.pits.closure import fewer_arcs
 from pit_tools.schedules import certificates
 from pit_tools.schedules.bounds import bounds_of, certified
 from pit_tools.schedules.certificates import (Factors, NotProved, check, evaluated, scaled_up,
-                                               told, total)
+                                               bound_text, total)
 from pit_tools.schedules.lagrangian import Search
 from pit_tools.schedules.programs import _solved, program_of
-from pit_tools.texts.spelling import multiples_of
+from pit_tools.texts.number_texts import multiples_of
 
 pytestmark = pytest.mark.skipif(compiled.compiler() is None, reason="no C++ compiler is here")
 
@@ -48,8 +48,8 @@ def random_problem(seed, blocks=7, lower=True):
     limits = []
     for which, period in itertools.product(range(resources), range(periods)):
         letter = random.choice(["L", "L", "I", "G", "none"] if lower else ["L", "none"])
-        room = float(np.round(amounts.sum() * random.random() / 3, 3))
-        ends = {"I": [room / 4, room], "G": [room / 9], "L": [room]}.get(letter)
+        capacity = float(np.round(amounts.sum() * random.random() / 3, 3))
+        ends = {"I": [capacity / 4, capacity], "G": [capacity / 9], "L": [capacity]}.get(letter)
         if ends:
             limits.append(Limit.of(which, period, letter, list(np.round(ends, 3))))
     uses = Uses(block.astype(np.int32), destination.astype(np.int8), resource.astype(np.int8),
@@ -144,8 +144,8 @@ def test_a_search_whose_time_is_up_proves_a_bound_above_that_of_highs(tmp_path):
         cut = check(certified(problem, mine.precedence, 1e-9), problem, mine.precedence)
         best = check(certified(problem, mine.precedence), problem, mine.precedence)
         assert cut >= best
-        assert told(check(certified(problem, mine.precedence, 60.0), problem, mine.precedence)) \
-            == told(best)
+        assert bound_text(check(certified(problem, mine.precedence, 60.0), problem, mine.precedence)) \
+            == bound_text(best)
 
 
 @pytest.mark.parametrize("change", [
@@ -199,19 +199,19 @@ def changed(lists, period, at, number):
 
 
 WRONG = {
-    "bound-below": (lambda one: replace(one, bound=one.bound - 1), "and it claims"),
-    "bound-above": (lambda one: replace(one, bound=one.bound + 1), "and it claims"),
+    "bound-below": (lambda one: replace(one, bound=one.bound - 1), "but it claims"),
+    "bound-above": (lambda one: replace(one, bound=one.bound + 1), "but it claims"),
     "price-smaller": (lambda one: replace(one, most=(one.most[0] * 99 // 100, *one.most[1:])),
-                      "and it claims"),
+                      "but it claims"),
     "price-larger": (lambda one: replace(one, most=(one.most[0] * 101 // 100, *one.most[1:])),
-                     "and it claims"),
+                     "but it claims"),
     "price-below-0": (lambda one: replace(one, most=(-1, *one.most[1:])), "a price is below 0"),
     "price-of-no-end": (lambda one: replace(one, least=(1, *one.least[1:])),
                         "without a lower end has a price"),
     "price-lacking": (lambda one: replace(one, most=one.most[1:]), "other limits"),
     "price-huge": (lambda one: replace(one, most=(2**120, *one.most[1:])), "too large"),
     "pit-smaller": (lambda one: replace(one, first=np.where(
-        one.first == one.first.max(), 0, one.first)), "lack blocks"),
+        one.first == one.first.max(), 0, one.first)), "miss predecessors"),
     "pit-empty": (lambda one: replace(one, first=np.full_like(one.first, 4)), "its pits are worth"),
     "pit-of-fewer": (lambda one: replace(one, first=one.first[1:]), "number of blocks"),
     "flow-larger": (lambda one: replace(one, flows=changed(one.flows, 0, 0, 10**9)), "it claims"),
@@ -220,27 +220,27 @@ WRONG = {
     "flow-huge": (lambda one: replace(one, flows=[np.full_like(part, 2**62)
                                                   for part in one.flows]), "too large"),
     "flow-elsewhere": (lambda one: replace(one, arcs=changed(one.arcs, 0, -1, 1)), "."),
-    "arc-beyond": (lambda one: replace(one, arcs=changed(one.arcs, 2, 0, 10**6)), "not there"),
-    "arc-before": (lambda one: replace(one, arcs=changed(one.arcs, 2, 0, -10**6)), "not there"),
+    "arc-beyond": (lambda one: replace(one, arcs=changed(one.arcs, 2, 0, 10**6)), "does not exist"),
+    "arc-before": (lambda one: replace(one, arcs=changed(one.arcs, 2, 0, -10**6)), "does not exist"),
     "later-beyond": (lambda one: replace(one, later=[np.full_like(part, 10**6)
-                                                     for part in one.later]), "not there"),
+                                                     for part in one.later]), "does not exist"),
     "flow-from-the-end": (lambda one: replace(one, later=[*one.later[:-1], np.array([0])],
                                               later_flows=[*one.later_flows[:-1], np.array([1])]),
                           "leaves the last period"),
     "no-flows": (lambda one: replace(one, arcs=[part[:0] for part in one.arcs],
                                      flows=[part[:0] for part in one.flows]), "it claims"),
     "flows-lacking": (lambda one: replace(one, flows=[part[1:] for part in one.flows]),
-                      "not of the same number"),
+                      "differ in number"),
     "period-lacking": (lambda one: replace(one, arcs=one.arcs[1:]), "number of periods"),
     "other-units": (lambda one: replace(one, bits=one.bits + 1), "it claims"),
     "no-units": (lambda one: replace(one, bits=-1), "units"),
-    "other-kind": (lambda one: replace(one, kind="CPIT"), "one of a CPIT"),
-    "other-sums": (lambda one: replace(one, sums=("a", "c")), "those of other files"),
+    "other-kind": (lambda one: replace(one, kind="CPIT"), "for a CPIT"),
+    "other-sums": (lambda one: replace(one, sums=("a", "c")), "of other files"),
 }
 
 
 @pytest.mark.parametrize("wrong", WRONG)
-def test_a_wrong_certificate_is_refused(proved, wrong):
+def test_a_wrong_certificate_is_rejected(proved, wrong):
     mine, right = proved
     right = replace(right, sums=("a", "b"))
     assert sum(map(len, right.later)) and sum(map(len, right.arcs))
@@ -250,7 +250,7 @@ def test_a_wrong_certificate_is_refused(proved, wrong):
         check(change(right), mine.pcpsp, mine.precedence, ("a", "b"))
 
 
-def test_a_certificate_of_another_instance_is_refused(proved):
+def test_a_certificate_of_another_instance_is_rejected(proved):
     """Another value, use, limit, rate or arc makes it another instance."""
     mine, one = proved
     problem, arcs = mine.pcpsp, mine.precedence
@@ -269,7 +269,7 @@ def test_a_certificate_of_another_instance_is_refused(proved):
         check(one, problem, arcs[::-1][:, ::-1].tocsr())
 
 
-def test_more_resources_than_files_have_are_refused(proved):
+def test_more_resources_than_files_have_are_rejected(proved):
     """Their products together would go beyond 64 bits."""
     mine, one = proved
     with pytest.raises(NotProved, match="more than 8 resources"):
@@ -342,7 +342,7 @@ def test_discounts_are_rounded_so_that_no_factor_becomes_smaller(sign):
                                          (Fraction(1, 100), "0.01"), (Fraction(-1, 1000), "0.00"),
                                          (Fraction(1, 10**9), "0.01"), (Fraction(12), "12.00")])
 def test_bounds_are_rounded_up(value, text):
-    assert told(value) == text
+    assert bound_text(value) == text
 
 
 # The command
@@ -367,14 +367,14 @@ def test_the_command_writes_and_checks(tmp_path, capsys):
     assert archive["PCPSP-first"].max() == 4 and len(archive["PCPSP-arcs"]) == sum(header["arcs"])
 
 
-def test_the_command_refuses_certificates_of_other_files(tmp_path, capsys):
+def test_the_command_rejects_certificates_of_other_files(tmp_path, capsys):
     base, other = mines.deposit(tmp_path, 2), mines.deposit(tmp_path, 5, name="other")
     assert main(["bounds", base, "--out", base + ".bound"]) == 0
     Path(base + ".copy").write_bytes(Path(base + ".prec").read_bytes() + b"% a remark\n")
     capsys.readouterr()
     for words in ([other], [base, "--prec", base + ".copy"]):
         assert main(["bounds", *words, "--check", base + ".bound"]) == 1
-        assert "sums are those of other files" in capsys.readouterr().out
+        assert "sums are of other files" in capsys.readouterr().out
     kept = Path(base + ".bound").read_bytes()
     for size in (0, 1, 100, len(kept) // 2, len(kept) - 1):
         Path(base + ".bound").write_bytes(kept[:size])
@@ -390,7 +390,7 @@ def test_the_command_refuses_certificates_of_other_files(tmp_path, capsys):
     ("CPIT-flows.npy", 10**7), ("CPIT-header.npy", b"{}"), ("CPIT-header.npy", b"[" * 10**5),
     ("CPIT-header.npy", b'{"form": 1}'), ("CPIT-arcs.npy", 3), ("CPIT-header.npy", None),
     ("CPIT-later.npy", None)])
-def test_files_that_are_no_certificates_are_refused(tmp_path, capsys, name, content):
+def test_files_that_are_no_certificates_are_rejected(tmp_path, capsys, name, content):
     """Members that are damaged, too long, of another form, or missing."""
     base = mines.six_blocks(tmp_path)
     assert main(["bounds", base, "--out", base + ".bound"]) == 0
@@ -410,8 +410,8 @@ def test_files_that_are_no_certificates_are_refused(tmp_path, capsys, name, cont
     assert "certificates" in capsys.readouterr().err
 
 
-def test_certificates_that_would_not_end_or_not_be_reported_are_refused(tmp_path, capsys):
-    """A device without an end, a pipe, members packed in another way, and numbers of any size."""
+def test_certificates_that_would_not_end_or_not_be_reported_are_rejected(tmp_path, capsys):
+    """A device without an end, a pipe, members packed in another form, and numbers of any size."""
     base = mines.six_blocks(tmp_path)
     assert main(["bounds", base, "--out", base + ".bound"]) == 0
     with zipfile.ZipFile(base + ".bound") as archive:
@@ -429,7 +429,7 @@ def test_certificates_that_would_not_end_or_not_be_reported_are_refused(tmp_path
                              if name == "CPIT-header.npy" else part)
     for path, message in (("/dev/zero", "give the file that --out wrote"),
                           (str(tmp_path / "pipe"), "give the file"),
-                          (str(tmp_path / "lzma"), "packed in another way"),
+                          (str(tmp_path / "lzma"), "packed in another form"),
                           (str(tmp_path / "large"), "a number is too large")):
         capsys.readouterr()
         assert main(["bounds", base, "--check", path]) == 2

@@ -32,26 +32,26 @@ def failing(monkeypatch):
     return make
 
 
-@pytest.mark.parametrize("error, status, told", [
-    (KeyError("depth"), 3, "this is a fault of pit-tools, and none of yours: KeyError: 'depth' "
+@pytest.mark.parametrize("error, status, message", [
+    (KeyError("depth"), 3, "internal error of pit-tools: KeyError: 'depth' "
      "(test_cli.py, line "), (MemoryError("Unable to allocate 3.64 TiB"), 2,
-                              "there is not memory enough: Unable to allocate 3.64 TiB\n"),
-    (MemoryError(), 2, "there is not memory enough\n"),
+                              "out of memory: Unable to allocate 3.64 TiB\n"),
+    (MemoryError(), 2, "out of memory\n"),
     (OSError(errno.EIO, "Input/output error", "a.csv"), 2, "a.csv: Input/output error\n"),
     (OSError(errno.ENOSPC, "No space left on device"), 2,
      "standard output: No space left on device\n"),
-    (ImportError("no openpyxl"), 2, "a package of Python is lacking or damaged: no openpyxl\n"),
+    (ImportError("no openpyxl"), 2, "a Python package is missing or damaged: no openpyxl\n"),
     (KeyboardInterrupt(), 130, ""), (BrokenPipeError(), 1, "")], ids=lambda one: type(one).__name__)
-def test_a_fault_is_reported_in_a_line(failing, capsys, error, status, told):
+def test_a_error_is_reported_in_a_line(failing, capsys, error, status, message):
     failing(error)
     assert main(["bounds", "mine"]) == status
     err = capsys.readouterr().err
-    assert (err.startswith(f"pit-tools bounds: {told}" if told else "")
-            and err.count("\n") == bool(told))
-    assert ("Please report it" in err) == (status == 3)
+    assert (err.startswith(f"pit-tools bounds: {message}" if message else "")
+            and err.count("\n") == bool(message))
+    assert ("please report it" in err) == (status == 3)
 
 
-def test_debug_shows_where_a_fault_arose(failing, capsys):
+def test_debug_shows_where_a_error_arose(failing, capsys):
     failing(KeyError("depth"))
     assert main(["bounds", "mine", "--debug"]) == 3
     assert "Traceback" in capsys.readouterr().err
@@ -66,14 +66,14 @@ def test_a_pipe_that_is_closed_is_quiet(words):
     assert (done.returncode, done.stderr) == (1, "")
 
 
-@pytest.mark.parametrize("closes, told",
+@pytest.mark.parametrize("closes, message",
                          [(">&-", "pit-tools: standard output is closed\n"),
                           ("> /dev/full", "pit-tools: standard output: No space left on device\n"),
                           ("2>&-", ""), ("<&-", "")])
-def test_closed_and_full_streams(closes, told):
+def test_closed_and_full_streams(closes, message):
     done = subprocess.run(["sh", "-c", f'"{PIT_TOOLS}" --help {closes}'], capture_output=True,
                           text=True, check=False)
-    assert (done.returncode, done.stderr) == (2 if told else 0, told)
+    assert (done.returncode, done.stderr) == (2 if message else 0, message)
 
 
 def test_what_is_printed_goes_into_no_file_if_output_is_closed(tmp_path):
@@ -83,12 +83,12 @@ def test_what_is_printed_goes_into_no_file_if_output_is_closed(tmp_path):
     assert (tmp_path / "deposit.plan").read_text().startswith("name,deposit\n")
 
 
-def test_a_name_that_is_no_utf_8_is_refused(tmp_path):
+def test_a_name_that_is_no_utf_8_is_rejected(tmp_path):
     done = subprocess.run([PIT_TOOLS.encode(), b"import", b"a\xff.csv"], capture_output=True,
                           cwd=tmp_path, check=False, env={**os.environ, "LC_ALL": "C.UTF-8"})
     assert done.returncode == 2
-    assert done.stderr == (b"pit-tools import: b'a\\xff.csv' is no UTF-8: rename the file, or lead "
-                           b"to it by a link\n")
+    assert done.stderr == (b"pit-tools import: b'a\\xff.csv' is not UTF-8: rename the file, or give "
+                           b"a link to it\n")
 
 
 OWN = 'open("was-run", "w").write("x")\nraise SystemExit("a file of the current folder was run")\n'
@@ -134,7 +134,7 @@ def test_ctrl_c_is_quiet():
 
 
 def test_each_status_and_command_is_in_the_help():
-    lines = cli.whole_parser().format_help()
+    lines = cli.full_parser().format_help()
     assert all(f"{status} " in lines for status in (0, 1, 2, 3, 130))
     assert re.findall(r"(?m)^    ([a-z-]+)", lines) == [*cli.COMMANDS, "help"]
 
@@ -169,19 +169,19 @@ def test_words_that_print_the_same(words, same):
 def test_a_former_name_shows_what_to_write(capsys, words, today):
     found = former.renewed(words.split())
     assert " ".join(found) == today and cli.parser_of(found[0]).parse_args(found[1:])
-    assert capsys.readouterr().err == f"pit-tools: names of the last version: write `pit-tools {today}`\n"
+    assert capsys.readouterr().err == f"pit-tools: these names are of the previous version: write `pit-tools {today}`\n"
     assert former.renewed(found) == found and not capsys.readouterr().err
 
 
-@pytest.mark.parametrize("words, told", [
+@pytest.mark.parametrize("words, message", [
     ("python a.py b", "a.py b`"), ("read a --arrays b", "write `--out FILE.npz`: `b` does not end"),
     ("survey a.plan a --html b", "does not end with .html"), ("report a b c --csv d", "with .csv"),
     ("read a --write b --immediate c", "run it by itself"), ("import a --base", "value is missing"),
     ("read a --write b.npz", "a base without .npz"), ("read a --immediate=b.NPZ", "a base without")])
-def test_a_former_name_that_would_do_something_else_is_refused(capsys, words, told):
+def test_a_former_name_that_would_do_something_else_is_rejected(capsys, words, message):
     assert main(words.split()) == 2
     error = capsys.readouterr().err
-    assert told in error and error.count("\n") == 1
+    assert message in error and error.count("\n") == 1
 
 
 def test_help_of_a_command_is_its_own(capsys):
@@ -190,14 +190,14 @@ def test_help_of_a_command_is_its_own(capsys):
     assert capsys.readouterr().out.startswith("usage: pit-tools import ")
 
 
-@pytest.mark.parametrize("words, told", [
+@pytest.mark.parametrize("words, message", [
     (["imprt"], "; did you mean `import`? "), (["help", "imprt"], "; did you mean `import`? "),
     (["checkschedule"], "; did you mean `check-schedule`? "),
     (["sruvey"], "; did you mean `survey`? "), (["xyzzy"], ": "), (["--colour"], ": ")],
     ids=" ".join)
-def test_a_mistyped_command_shows_the_nearest_one(capsys, words, told):
+def test_a_mistyped_command_shows_the_nearest_one(capsys, words, message):
     assert main(words) == 2
-    assert capsys.readouterr().err == (f"pit-tools: no command `{words[-1]}`{told}`pit-tools "
+    assert capsys.readouterr().err == (f"pit-tools: no command `{words[-1]}`{message}`pit-tools "
                                        "--help` lists all\n")
 
 
@@ -217,10 +217,10 @@ def test_what_packages_warn_of_is_reported_once_and_never_before_an_error(monkey
 
     monkeypatch.setattr("pit_tools.commands.solving.bounds.run", run)
     assert main(["bounds", "mine", *words]) == status
-    told = capfd.readouterr().err
-    assert told.count("a package of Python warns") == (0 if status else 4 if words else 1)
-    assert "no depth" in told if status else "overflow 0 encountered" in told
-    assert words or told.count("\n") == 1 and ("(4 in all" in told) == (status == 0)
+    message = capfd.readouterr().err
+    assert message.count("a Python package warns") == (0 if status else 4 if words else 1)
+    assert "no depth" in message if status else "overflow 0 encountered" in message
+    assert words or message.count("\n") == 1 and ("(4 in all" in message) == (status == 0)
 
 
 @pytest.mark.skipif(os.geteuid() != 0, reason="only root can make files of another user")

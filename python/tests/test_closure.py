@@ -14,11 +14,11 @@ from pit_tools.errors import UserError
 from pit_tools.instances.arrays import Blocks, Instance, UltimatePit, cents
 from pit_tools.instances.files import read_instance, write_instance
 from pit_tools.pits import closure, compiled
-from pit_tools.pits.files import read_pit, told
+from pit_tools.pits.files import pit_text, read_pit
 from pit_tools.plans.file import read_plan
 from pit_tools.schedules.files import Schedule, check
 from pit_tools.schedules.programs import program_of, program_of_upit
-from pit_tools.texts.spelling import multiples_of
+from pit_tools.texts.number_texts import multiples_of
 
 pytestmark = pytest.mark.skipif(compiled.compiler() is None, reason="no C++ compiler is here")
 
@@ -125,11 +125,11 @@ def argparse_of(command, *words):
     return parser.parse_args(words)
 
 
-@pytest.mark.parametrize("values, told", [([0.1234567, 1], "more than 6 decimals"),
-                                          ([1e12, 0.000001], "a number above 9,007,199,254"),
-                                          ([np.nan, 1], "infinite or NaN"), ([np.inf, 1], "NaN")])
-def test_values_that_cannot_be_counted_exactly_are_refused(values, told):
-    with pytest.raises(UserError, match=told):
+@pytest.mark.parametrize("values, message", [([0.1234567, 1], "more than 6 decimals"),
+                                             ([1e12, 0.000001], "a number above 9,007,199,254"),
+                                             ([np.nan, 1], "infinite or NaN"), ([np.inf, 1], "NaN")])
+def test_values_that_cannot_be_counted_exactly_are_rejected(values, message):
+    with pytest.raises(UserError, match=message):
         closure.ultimate_pit(np.array(values, dtype=float), sparse.csr_matrix((2, 2)))
     with pytest.raises(UserError, match="decimals|NaN"):
         cents(np.array([0.0205]))
@@ -168,7 +168,7 @@ def test_arcs_of_any_format_are_the_same_arcs(tmp_path, kind):
         assert (program.rows != again.rows).nnz == 0
     write_instance(Instance(precedence=given), str(tmp_path / "copy"))
     assert (tmp_path / "copy.prec").read_bytes() == (tmp_path / "mine.prec").read_bytes()
-    with pytest.raises(UserError, match="as many rows as columns"):
+    with pytest.raises(UserError, match="arcs must be a square matrix"):
         closure.ultimate_pit(values, mine.precedence[:, 1:])
 
 
@@ -190,7 +190,7 @@ def test_the_command_finds_the_pit_of_the_deposit(tmp_path, capsys):
 def test_a_pit_is_reported_in_integer_cents(tmp_path):
     mine = read_instance(mines.six_blocks(tmp_path))
     in_pit = np.array([True, False, False, True, True, False])
-    assert told(in_pit, mine.blocks, mine.upit.values) == "3 blocks, 8000.000 t, worth 241285.00"
+    assert pit_text(in_pit, mine.blocks, mine.upit.values) == "3 blocks, 8000.000 t, worth 241285.00"
 
 
 @pytest.mark.parametrize("home", ["cache", "file"])
@@ -276,9 +276,9 @@ def test_a_program_of_another_user_is_never_run(kept):
     assert is_ours()
 
 
-@pytest.mark.parametrize("is_whole", [True, False])
+@pytest.mark.parametrize("is_complete", [True, False])
 def test_a_program_that_was_packed_next_to_the_module_is_run_unless_it_is_damaged(
-        kept, tmp_path, monkeypatch, is_whole):
+        kept, tmp_path, monkeypatch, is_complete):
     """It returns 1 for each call, like `kept`, so that ours is distinguished from it; the
     cache has none, and gets none unless the packed one is damaged."""
     package = tmp_path / "package"
@@ -286,11 +286,11 @@ def test_a_program_that_was_packed_next_to_the_module_is_run_unless_it_is_damage
     shutil.copy(compiled.SOURCE, package)
     packed = package / kept.name
     kept.rename(packed)
-    if not is_whole:
+    if not is_complete:
         packed.write_bytes(packed.read_bytes()[:100])
     monkeypatch.setattr(compiled, "SOURCE", str(package / "closure.cpp"))
-    assert is_ours() == (not is_whole)
-    assert kept.exists() == (not is_whole)
+    assert is_ours() == (not is_complete)
+    assert kept.exists() == (not is_complete)
 
 
 def test_a_program_of_another_source_is_not_the_one_that_was_packed(kept, tmp_path, monkeypatch):
@@ -302,14 +302,14 @@ def test_a_program_of_another_source_is_not_the_one_that_was_packed(kept, tmp_pa
     assert is_ours()
 
 
-def test_without_a_compiler_it_is_said_once(tmp_path, monkeypatch, capsys):
+def test_without_a_compiler_it_is_reported_once(tmp_path, monkeypatch, capsys):
     monkeypatch.setenv("XDG_CACHE_HOME", str(tmp_path))
     monkeypatch.setattr(compiled, "compiler", lambda: None)
     compiled.library.cache_clear()
     assert is_ours() and not closure.is_compiled() and is_ours()
     compiled.library.cache_clear()
-    told = capsys.readouterr().err
-    assert told.count("no C++ compiler is there") == 1 and "takes minutes" in told
+    message = capsys.readouterr().err
+    assert message.count("no C++ compiler is installed") == 1 and "takes minutes" in message
 
 
 def test_without_a_compiler_highs_finds_small_pits_and_large_ones_are_reported(monkeypatch):

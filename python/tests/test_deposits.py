@@ -42,12 +42,12 @@ def test_a_span_of_seeds_writes_files_and_a_list(tmp_path):
 
 @pytest.mark.parametrize("wrong", [dict(shape="ball"), dict(seed=0), dict(seed=1000001),
                                    dict(size=(1, 0, 3))])
-def test_what_is_no_deposit_is_refused(wrong):
+def test_what_is_no_deposit_is_rejected(wrong):
     with pytest.raises(UserError):
         Deposit(**wrong)
 
 
 def test_the_command_prints_in_a_line_what_is_wrong(capsys):
     assert main(["deposit", "--seed", "x"]) == 2
-    told = capsys.readouterr().err
-    assert told.startswith("pit-tools deposit: a seed is a whole number") and told.count("\n") == 1
+    message = capsys.readouterr().err
+    assert message.startswith("pit-tools deposit: a seed is an integer") and message.count("\n") == 1

@@ -62,9 +62,9 @@ def test_tonnes_metal_and_the_middle_stay(tmp_path, points, sizes, more):
 
 
 @pytest.mark.parametrize("rotation", ["z 40, x -20", "z -40, x 20", "x 20, z 40"])
-def test_turns_by_which_blocks_are_not_side_by_side_are_refused(tmp_path, rotation):
+def test_turns_by_which_blocks_are_not_adjacent_are_rejected(tmp_path, rotation):
     path = written(tmp_path / "a.csv", level(OWN), True)
-    with pytest.raises(UserError, match="of a block beside the others along the model's"):
+    with pytest.raises(UserError, match="of a block away from the others' grid along the model's"):
         import_export([path], Words(**{**WORDS, "rotation": rotation}))
 
 
@@ -74,13 +74,13 @@ def test_a_model_that_dips_without_its_turns_has_that_cause(tmp_path):
         import_export([path], Words(**{**WORDS, "rotation": "", "about": "", "regularise": ""}))
 
 
-@pytest.mark.parametrize("words, told", [
-    ({"regularise": ""}, "--rotation goes with --regularise"),
+@pytest.mark.parametrize("words, message", [
+    ({"regularise": ""}, "--rotation requires --regularise"),
     ({"rotation": "40"}, "--rotation: give turns about axes"),
-    ({"about": "990,1990"}, "of a model that dips give z too"),
+    ({"about": "990,1990"}, "for a model that dips also give z"),
     ({"parents": "20,20,10"}, "give --parents or --regularise, not both"),
-    ({"rotation": "", "own_axes": True}, "--own-axes goes with")])
-def test_words_that_do_not_go_together_are_refused(tmp_path, words, told):
+    ({"rotation": "", "own_axes": True}, "--own-axes requires")])
+def test_words_that_contradict_each_other_are_rejected(tmp_path, words, message):
     path = written(tmp_path / "a.csv", level(OWN), True)
-    with pytest.raises(UserError, match=told):
+    with pytest.raises(UserError, match=message):
         import_export([path], Words(**{**WORDS, **words}))

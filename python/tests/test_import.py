@@ -9,7 +9,7 @@ EXPORTS = [export for made in KINDS.values() for export in made()]
 
 
 @pytest.mark.parametrize("export", EXPORTS, ids=lambda export: export.name)
-def test_an_export_is_right_reported_or_refused_with_its_cause(export, tmp_path, monkeypatch):
+def test_an_export_is_right_reported_or_rejected_with_its_cause(export, tmp_path, monkeypatch):
     monkeypatch.chdir(tmp_path)
     verdict = verdict_of(export)
     assert verdict.outcome in ("right", "told", "refused"), verdict.line
@@ -17,6 +17,6 @@ def test_an_export_is_right_reported_or_refused_with_its_cause(export, tmp_path,
 
 def test_each_export_has_a_name_and_a_truth_or_a_cause():
     assert len({one.name for one in EXPORTS}) == len(EXPORTS)
-    assert all(one.rows or one.refused for one in EXPORTS)
+    assert all(one.rows or one.rejected for one in EXPORTS)
     counts = {kind: len(made()) for kind, made in KINDS.items()}
     assert counts["mistake"] + counts["various"] >= 88 and counts["preset"] >= 24

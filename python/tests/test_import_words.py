@@ -12,7 +12,7 @@ from pit_tools.errors import UserError
 from pit_tools.exports.cells import Marks, marks_of
 from pit_tools.exports.words import Words
 from pit_tools.imports.steps import Imported, import_export
-from pit_tools.texts.formulas import Lacking, formula_of
+from pit_tools.texts.formulas import MissingColumn, formula_of
 
 USUAL = {"x": "X", "y": "Y", "z": "Z", "tonnes": "T", "grade": "AU", "zone": ["ZONE"]}
 
@@ -54,62 +54,62 @@ def mapped(column: int, change) -> list[list[str]]:
 STOPS = [
     (lambda: with_cell(20, 2, ""), {}, "line 21: the column Z has ``, which is empty"),
     (lambda: with_cell(20, 2, "x"), {}, "line 21: the column Z has `x`"),
-    (lambda: with_cell(20, 3, "2,5 t"), {}, "line 21 has 7 cells, and the header 6"),
-    (lambda: with_cell(20, 4, "<0.01"), {}, "if it stands for nothing, give --missing '<0.01'"),
+    (lambda: with_cell(20, 3, "2,5 t"), {}, "line 21 has 7 cells, but the header 6"),
+    (lambda: with_cell(20, 4, "<0.01"), {}, "if it means nothing, give --missing '<0.01'"),
     (lambda: with_cell(20, 4, "1.2%"), {}, "give the unit, as --grade 'AU %'"),
-    (lambda: with_cell(20, 4, "2024-03-01"), {}, "a spreadsheet has made a date"),
-    (lambda: with_cell(20, 5, ""), {}, "line 21: it has tonnes and no zone, as 1 rows"),
+    (lambda: with_cell(20, 4, "2024-03-01"), {}, "a spreadsheet has changed a number to a date"),
+    (lambda: with_cell(20, 5, ""), {}, "line 21: it has tonnes but no zone, as 1 rows"),
     (lambda: with_cell(20, 3, "2700000000"), {}, "line 21: a block has 2,700,000,000 t"),
     (lambda: with_cell(20, 4, "2000000"), {}, "more than all metal"),
     (lambda: with_cell(20, 4, "1e305"), {}, "more than all metal"),
-    (lambda: with_cell(20, 0, "43"), {}, "x has 6 values, and a grid of 1 would have 44 places"),
+    (lambda: with_cell(20, 0, "43"), {}, "x has 6 values, but a grid of 1 would have 44 positions"),
     (lambda: with_cell(20, 0, "43"), {"size": "10,10,10"},
-     "x 43 is 3 beside the grid of 10 through 0"),
+     "x 43 is 3 off the grid of 10 through 0"),
     (lambda: with_cell(20, 0, "0"), {},
-     "1 rows have a place that stands before, .*line 21 .* and .*line 17 .* each is a whole block"),
+     "1 rows have the position of an earlier one, .*line 21 .* and .*line 17 .* each is a complete block"),
     (rows, {"grade": "GOLD"}, "no column `GOLD` in line 1, which has `X` `Y`"),
-    (rows, {"grade": "AU oz/t"}, "`oz/t` is read in two ways"),
-    (rows, {"tonnes": "T tons"}, "`tons` is read in two ways"),
-    (rows, {"grade": "AU oz/kg"}, "`oz/kg` behind `AU` is no unit of a grade"),
-    (rows, {"tonnes": "T*(2"}, "`T\\*\\(2` is no formula"),
-    (rows, {"tonnes": "T.sum()"}, "is no formula: it may have columns"),
+    (rows, {"grade": "AU oz/t"}, "`oz/t` has two meanings"),
+    (rows, {"tonnes": "T tons"}, "`tons` has two meanings"),
+    (rows, {"grade": "AU oz/kg"}, "`oz/kg` after `AU` is neither a known unit of a grade"),
+    (rows, {"tonnes": "T*(2"}, "`T\\*\\(2` is not a formula"),
+    (rows, {"tonnes": "T.sum()"}, "is not a formula: it may have columns"),
     (rows, {"tonnes": "open(T)"}, "no function `open`"),
     (rows, {"x": "10/(X-10)"}, "x cannot be computed: a cell is missing, or it is divided by 0"),
     (rows, {"tonnes": "T", "density": "T"}, "give --tonnes, or a density"),
     (rows, {"y": ""}, "give --x, --y and --z together"),
-    (rows, {"where": ["ZONE == west"]}, "in a filter a text stands between double quotes"),
+    (rows, {"where": ["ZONE == west"]}, "in a filter put texts between double quotes"),
     (rows, {"where": ["AU"]}, "compares nothing"),
     (rows, {"where": ['AU > 1 and AU == "x"']}, "compares a column with numbers and with texts"),
-    (rows, {"where": ['ZONE == "north"']}, "there is no row below the header that the filter lets "
-     "through"), (rows, {"parents": "20,20,20"}, "--parents needs --corner"),
+    (rows, {"where": ['ZONE == "north"']}, "there is no row below the header that the filter "
+     "keeps"), (rows, {"parents": "20,20,20"}, "--parents needs --corner"),
     (rows, {"parents": "20,20,20", "corner": "0,0,0"}, "is on the border of two parents"),
     (rows, {"size": "10,10"}, "--size: give three numbers"),
-    (rows, {"size": "10,10,0"}, "a size is above 0"),
-    (rows, {"x_bearing": 60.0}, "So turned, neighbours still lie"),
-    (rows, {"blocks": "5,4,4"}, "rows take 5 x 5 x 4 blocks, and --blocks says 5 x 4 x 4"),
+    (rows, {"size": "10,10,0"}, "a size must be above 0"),
+    (rows, {"x_bearing": 60.0}, "With this turn, neighbours are still"),
+    (rows, {"blocks": "5,4,4"}, "rows occupy 5 x 5 x 4 blocks, but --blocks is 5 x 4 x 4"),
     (rows, {"density": "T", "tonnes": "", "ore_share": "AU"},
      "--ore-share and --waste-density together"),
     (rows, {"x": "", "y": "", "z": "", "i": "X", "j": "Y", "k": "Z", "first": "0,0,0",
-            "size": "10,10,10", "index_from": 1}, "the index i is from 0 to 40, and not from 1"),
+            "size": "10,10,10", "index_from": 1}, "the index i is from 0 to 40, not from 1"),
     (lambda: [line if at == 0 else [str(int(line[0]) // 10 + 1), str(int(line[1]) // 10 + 1),
                                     str(int(line[2]) // 10), *line[3:]]
               for at, line in enumerate(rows())], {"x": "", "y": "", "z": "", "i": "X", "j": "Y",
                                                    "k": "Z", "first": "0,0,0", "size": "10,10,10"},
-     "the least indices are 1, 1, 0: say by --index-from"),
+     "the smallest indices are 1, 1, 0: state by --index-from"),
     (lambda: [["X", "Y", "Z", "T", "AU", "ZONE"], ["0", "0", "0", "1", "1", "a"]], {},
      "all rows have one x: give the size"),
     (lambda: mapped(3, lambda text: "-99"), {}, "no row has tonnes: is --tonnes the right column"),
     (lambda: mapped(3, lambda text: "0.0001"), {"merge": True},
      "no block has half a kilogram: is --tonnes the right column"),
     (lambda: mapped(0, lambda text: f"{int(text) * 4321}"), {"size": "10,10,10"},
-     "more than the 10,000 of pitc"),
+     "more than the 10,000 that pitc accepts"),
     (lambda: [rows()[0], ["m", "m", "m", "t", "oz/st", ""], *rows()[1:]], {},
-     "the column AU says `oz/st`, and is read as grams a tonne: give --grade 'AU oz/st'")]
+     "the column AU has the unit `oz/st`, but is read as grams per tonne: give --grade 'AU oz/st'")]
 
 
-@pytest.mark.parametrize("lines, changed, told", STOPS, ids=[told for _, _, told in STOPS])
-def test_what_cannot_be_right_stops_with_its_cause(tmp_path, lines, changed, told):
-    with pytest.raises(UserError, match=told):
+@pytest.mark.parametrize("lines, changed, message", STOPS, ids=[message for _, _, message in STOPS])
+def test_what_cannot_be_right_stops_with_its_cause(tmp_path, lines, changed, message):
+    with pytest.raises(UserError, match=message):
         imported(tmp_path, lines(), **changed)
 
 
@@ -119,22 +119,22 @@ DOUBTS = [(lambda: mapped(3, lambda text: "2.7"), {}, "are they densities"),
           (lambda: mapped(0, lambda text: str(int(text) // 10)), {"y": "Y/10", "z": "Z/10", "tonnes": "", "density": "T/1000"},
            "all sizes are 1"), (lambda: mapped(2, lambda text: str(30 - int(text))), {}, None),
           (lambda: [line if line[0] != "20" or line[2] != "10" else [*line[:3], "-99", *line[4:]]
-                    for line in rows()], {}, "5 places below a block have none"),
-          (lambda: with_cell(30, 5, "West "), {}, "zones `west` and `West` differ by case"),
-          (lambda: with_cell(30, 3, "99900"), {}, "1 blocks weigh more than 10 t a cubic metre"),
+                    for line in rows()], {}, "5 positions below a block have none"),
+          (lambda: with_cell(30, 5, "West "), {}, "zones `west` and `West` differ only by case"),
+          (lambda: with_cell(30, 3, "99900"), {}, "1 blocks weigh more than 10 t per cubic metre"),
           (lambda: [line if line[5] != "east" or line[4] == "-99" else [*line[:4], "4000", "east"]
                     for line in rows()], {}, "in another unit"),
           (lambda: [line if line[3] != "-99" else [*line[:3], "2700", "0", line[5]]
-                    for line in rows()], {}, "every place of the box has rock, and most of the highest"),
+                    for line in rows()], {}, "every position of the box has rock, and most of the highest"),
           (lambda: [line if line[0] != "10" or line[2] != "10" else [*line[:3], "900", *line[4:]]
                     for line in rows()], {}, "is only their ore counted")]
 
 
-@pytest.mark.parametrize("lines, changed, told", DOUBTS,
-                         ids=[told or "depths" for _, _, told in DOUBTS])
-def test_what_may_be_wrong_is_reported(tmp_path, lines, changed, told):
+@pytest.mark.parametrize("lines, changed, message", DOUBTS,
+                         ids=[message or "depths" for _, _, message in DOUBTS])
+def test_what_may_be_wrong_is_reported(tmp_path, lines, changed, message):
     doubts = imported(tmp_path, lines(), **changed).report.doubts
-    pattern = told or "is z a depth"
+    pattern = message or "is z a depth"
     assert len(doubts) == 1 and re.search(pattern, doubts[0]), doubts
     assert imported(tmp_path, rows()).report.doubts == []
 
@@ -150,11 +150,11 @@ def test_marks_are_found_where_they_can_only_mean_one_thing(cells, decimal, thou
 
 
 @pytest.mark.parametrize(
-    "cells, told", [(["10,935", "7,120"], "is a number with a decimal comma, or one of thousands"),
-                    (["800", "1.020"], "has a decimal point, or one between thousands"),
-                    (["1.5", "2,5"], "has a decimal point, and `2,5` a decimal comma")])
-def test_marks_that_may_mean_two_things_are_refused(cells, told):
-    with pytest.raises(UserError, match=told):
+    "cells, message", [(["10,935", "7,120"], "is a number with a decimal comma, or with a comma between thousands"),
+                       (["800", "1.020"], "has a decimal point, or a point between thousands"),
+                       (["1.5", "2,5"], "has a decimal point, but `2,5` a decimal comma")])
+def test_marks_that_may_mean_two_things_are_rejected(cells, message):
+    with pytest.raises(UserError, match=message):
         marks_of([pd.Series(cells)])
 
 
@@ -193,7 +193,7 @@ def test_a_missing_term_of_a_sum_adds_nothing_and_a_missing_factor_all():
 
 
 def test_a_name_that_is_no_column_is_reported_with_one_like_it():
-    with pytest.raises(Lacking, match="no column `TONAGE`; is it `TONNAGE`"):
+    with pytest.raises(MissingColumn, match="no column `TONAGE`; is it `TONNAGE`"):
         formula_of("TONAGE", ["X", "TONNAGE"])
 
 
@@ -210,18 +210,18 @@ def test_a_filter_and_a_table_of_zones_go_by_texts_and_numbers(tmp_path):
 
 def test_blocks_that_weigh_nothing_are_counted(tmp_path):
     found = imported(tmp_path, with_cell(20, 3, "0.0001"), merge=True)
-    assert any("left out: 1 blocks of less than half a kilogram" in fact
+    assert any("omitted: 1 blocks of less than half a kilogram" in fact
                for fact in found.report.facts)
 
 
-def test_the_command_prints_a_fault_in_one_line(tmp_path, capsys, monkeypatch):
+def test_the_command_prints_a_error_in_one_line(tmp_path, capsys, monkeypatch):
     monkeypatch.chdir(tmp_path)
     (tmp_path / "a.csv").write_text("X,Y,Z\n")
     assert main(["import", "a.csv", "--x", "X", "--y", "Y", "--z", "-DEPTH", "--tonnes", "T",
                  "--grade", "AU"]) == 2
-    told = capsys.readouterr()
-    assert told.out == "" and told.err.startswith("pit-tools import: a.csv: no column `DEPTH` in "
-                                                  "line 1") and told.err.count("\n") == 1
+    message = capsys.readouterr()
+    assert message.out == "" and message.err.startswith("pit-tools import: a.csv: no column `DEPTH` in "
+                                                        "line 1") and message.err.count("\n") == 1
     assert main(["import", "none.csv", "--x", "X", "--y", "Y", "--z", "Z", "--tonnes", "T",
                  "--grade", "AU"]) == 2
     assert capsys.readouterr().err == "pit-tools import: none.csv: No such file or directory\n"

@@ -17,7 +17,7 @@ NAMES = [name for name in pit_tools.__all__ if name != "VERSION"]
 
 
 @pytest.mark.parametrize("name", NAMES)
-def test_each_name_is_there_and_says_what_it_is(name):
+def test_each_name_is_there_and_has_a_description(name):
     found = getattr(pit_tools, name)
     assert found.__doc__ and name in dir(pit_tools)
     if inspect.isclass(found):
@@ -37,7 +37,7 @@ def test_the_page_has_the_names_and_no_others():
     assert sorted(re.findall(r"`(\w+)", " ".join(cells))) == sorted(pit_tools.__all__)
 
 
-def test_what_is_no_name_is_refused_as_python_does():
+def test_what_is_no_name_is_rejected_as_python_does():
     with pytest.raises(AttributeError, match="no attribute 'read_mine'"):
         pit_tools.read_mine  # pylint: disable=pointless-statement
 
@@ -56,7 +56,7 @@ def test_frames_of_blocks_and_uses(tmp_path):
     assert uses[uses["block"] == 4].values.tolist() == [[4, 0, 0, 2650], [4, 0, 1, 2650]]
 
 
-def test_rows_of_a_program_by_what_they_say(tmp_path):
+def test_rows_of_a_program_by_their_meaning(tmp_path):
     mine = pit_tools.read_instance(mines.six_blocks(tmp_path))
     n, periods, arcs = 6, 3, mine.precedence.nnz
     for problem, relaxed, wanted in (
@@ -87,7 +87,7 @@ def test_a_schedule_of_two_arrays(tmp_path):
 
 def test_a_part_that_was_not_read_is_named(tmp_path):
     mine = pit_tools.read_instance(mines.six_blocks(tmp_path), ("blocks", "prec"))
-    with pytest.raises(pit_tools.UserError, match="there is no UPIT of this instance"):
+    with pytest.raises(pit_tools.UserError, match="this instance has no UPIT"):
         pit_tools.bounds_of(mine)
 
 

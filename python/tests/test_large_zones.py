@@ -64,14 +64,14 @@ def test_a_plan_repeats_the_record_of_a_cut_zone(here, capsys):
     assert "from-west-1.csv from-west-2.csv" in capsys.readouterr().out
 
 
-def test_more_files_than_a_plan_has_zones_are_refused():
+def test_more_files_than_a_plan_has_zones_are_rejected():
     rows = pd.DataFrame({"zone": [0] * 65})
     assert cut_zones(rows, ["all"], 2)[1] == ["all"] * 33
     with pytest.raises(UserError, match="would be 65 files of at most 1 rows"):
         cut_zones(rows, ["all"], 1)
 
 
-@pytest.mark.skipif(not is_compiled(), reason="no C++ compiler is there")
+@pytest.mark.skipif(not is_compiled(), reason="no C++ compiler is installed")
 def test_the_pit_of_a_cut_zone_is_that_of_the_complete_zone(here, monkeypatch):
     """A slope is that of the lower block, and each file of a zone has the zone's slopes."""
     pits = []

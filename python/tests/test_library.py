@@ -13,9 +13,9 @@ from pit_tools.deposits.seeded import Deposit
 from pit_tools.schedules.files import read_schedule
 
 
-def test_the_library_is_as_its_table_says(tmp_path):
+def test_the_library_agrees_with_its_table(tmp_path):
     for deposit in library.DEPOSITS:
-        assert list(library.faults_of(deposit, str(tmp_path))) == []
+        assert list(library.errors_of(deposit, str(tmp_path))) == []
 
 
 def test_no_schedule_is_worth_more_than_its_bound_and_a_pcpsp_no_less_than_its_cpit():
@@ -53,9 +53,9 @@ def set_cells(folder, **changes):
 
 
 @pytest.mark.parametrize("words", [["--check"], ["--seek", "lens1.cpit"], ["--better", "lens1.cpit-schedule"]])
-def test_a_folder_that_nothing_goes_into_is_refused(tmp_path, capsys, words):
+def test_a_folder_that_nothing_goes_into_is_rejected(tmp_path, capsys, words):
     assert main(["library", *words, "--out", str(tmp_path / "new")]) == 2
-    assert "it goes without --check, --better and --seek" in capsys.readouterr().err
+    assert "it excludes --check, --better and --seek" in capsys.readouterr().err
     assert not (tmp_path / "new").exists()
 
 
@@ -87,18 +87,18 @@ def test_a_better_schedule_is_taken_with_its_day_and_author(known, tmp_path, cap
     assert {name: (known / name).read_bytes() for name in os.listdir(known)} == before
 
 
-@pytest.mark.parametrize("change, told", [
-    (lambda text: text.splitlines(True)[0], "does not hold: block"),
+@pytest.mark.parametrize("change, message", [
+    (lambda text: text.splitlines(True)[0], "is infeasible: block"),
     (lambda text: text + "9999 0\n", "no block below"),
 ])
-def test_a_schedule_that_is_not_feasible_is_refused(known, tmp_path, capsys, change, told):
+def test_a_schedule_that_is_not_feasible_is_rejected(known, tmp_path, capsys, change, message):
     given = tmp_path / "lens6.cpit-schedule"
     given.write_text(change((known / given.name).read_text()))
     set_cells(known, cpit_best="1.00")
     before = {name: (known / name).read_bytes() for name in os.listdir(known)}
     assert main(["library", "--library", str(known), "--better", str(given), "--by", "me", "--how",
                  "so"]) == 2
-    assert told in capsys.readouterr().err
+    assert message in capsys.readouterr().err
     assert {name: (known / name).read_bytes() for name in os.listdir(known)} == before
 
 
@@ -109,15 +109,15 @@ def test_a_value_above_its_bound_is_reported(known, tmp_path, capsys):
     assert "above the bound 2.00" in capsys.readouterr().err
 
 
-@pytest.mark.parametrize("words, told",
-                         [(["--better", "mine.schedule", "--by", "me", "--how", "so"], "names no "
+@pytest.mark.parametrize("words, message",
+                         [(["--better", "mine.schedule", "--by", "me", "--how", "so"], "is not a "
                            "schedule of the library"), (["--better", "lens2.cpit-schedule", "--by",
-                                                         "me", "--how", "so"], "names no schedule"),
+                                                         "me", "--how", "so"], "is not a schedule"),
                           (["--better", "lens6.cpit-schedule"], "needs --by"),
-                          (["--library", "gone", "--check"], "no library")])
-def test_what_names_nothing_is_reported(tmp_path, monkeypatch, capsys, words, told):
+                          (["--library", "gone", "--check"], "not a library")])
+def test_what_names_nothing_is_reported(tmp_path, monkeypatch, capsys, words, message):
     monkeypatch.chdir(tmp_path)
-    assert main(["library", *words]) == 2 and told in capsys.readouterr().err
+    assert main(["library", *words]) == 2 and message in capsys.readouterr().err
 
 
 def test_a_lower_bound_comes_in_alone(known):
@@ -125,9 +125,9 @@ def test_a_lower_bound_comes_in_alone(known):
     mine = instance_of(deposit, str(known))
     before = cells(known)
     bound = (float(before["pcpsp_best"]) + float(before["pcpsp_bound"])) / 2
-    told = taken(Finding(deposit, kind, None, bound, "me", "so"), mine, str(known))
-    assert f"bound {bound:.2f}" in told and cells(known) == {**before,
-                                                             "pcpsp_bound": f"{bound:.2f}"}
+    message = taken(Finding(deposit, kind, None, bound, "me", "so"), mine, str(known))
+    assert f"bound {bound:.2f}" in message and cells(known) == {**before,
+                                                                "pcpsp_bound": f"{bound:.2f}"}
 
 
 def test_a_search_from_the_best_takes_nothing(known, capsys):

@@ -68,7 +68,7 @@ def test_each_pit_is_that_of_a_plan_with_this_price(tmp_path, capsys, monkeypatc
     mines.deposit(tmp_path, 5, (12, 10, 6), shape)
     factors = "0.35,0.6,0.85,1,1.25"
     assert main(["nested", "mine.plan", "mine", "--factors", factors, "--out", "some"]) == 0
-    told = capsys.readouterr().out
+    message = capsys.readouterr().out
     larger = np.zeros(12 * 10 * 6, dtype=bool)
     for factor in factors.split(","):
         assert main(["vary", "mine.plan", "--set", f"price=x{factor}", "--name", "other"]) == 0
@@ -87,7 +87,7 @@ def test_each_pit_is_that_of_a_plan_with_this_price(tmp_path, capsys, monkeypatc
     assert main(["report", "mine.plan", "mine", "some1.pit"]) == 0
     report = capsys.readouterr().out.splitlines()
     whole = next(line for line in report if line.startswith("     all"))
-    line = next(line for line in told.splitlines() if line.startswith("          1 "))
+    line = next(line for line in message.splitlines() if line.startswith("          1 "))
     assert line.split()[1:] == whole.split()[1:]
 
 
@@ -97,11 +97,11 @@ def test_the_table_and_the_picture(tmp_path, monkeypatch, capsys):
     words = ["nested", "mine.plan", "mine", "--factors", "1,0.5", "--out", "pits.csv",
              "--out", "pits.xlsx", "--out", "pits.svg"]
     assert main(words) == 0
-    told = capsys.readouterr().out
+    message = capsys.readouterr().out
     with open("pits.csv", encoding="utf-8") as file:
         rows = list(csv.DictReader(file))
     assert [row["factor"] for row in rows] == ["0.5", "1"]
-    lines = [line.split() for line in told.splitlines()[1:3]]
+    lines = [line.split() for line in message.splitlines()[1:3]]
     names = ["factor", "blocks", "ore (t)", "grade (g/t)", "metal (kg)", "recovered (kg)",
              "waste (t)", "strip ratio (t/t)", "value (100 cents)"]
     for row, line in zip(rows, lines):
@@ -117,21 +117,21 @@ def test_the_table_and_the_picture(tmp_path, monkeypatch, capsys):
     assert main(words) == 0 and (tmp_path / "pits.svg").read_bytes() == before
 
 
-@pytest.mark.parametrize("text, told", [
-    ("1,x", "`x` is no number"), ("", "`` is no number"), ("1,1.0", "has a factor twice"),
-    ("0", "not above 0"), ("nan", "`nan` is no number"), ("1_0", "`1_0` is no number"), ("1e9", "up to 1000"),
+@pytest.mark.parametrize("text, message", [
+    ("1,x", "`x` is not a number"), ("", "`` is not a number"), ("1,1.0", "has a factor twice"),
+    ("0", "must be above 0"), ("nan", "`nan` is not a number"), ("1_0", "`1_0` is not a number"), ("1e9", "up to 1000"),
     ("0.1234567", "more than 6 decimals")])
-def test_what_is_no_factor_is_reported(text, told):
-    with pytest.raises(UserError, match=told):
+def test_what_is_no_factor_is_reported(text, message):
+    with pytest.raises(UserError, match=message):
         factors_of(text)
 
 
-@pytest.mark.parametrize("change, words, told", [
+@pytest.mark.parametrize("change, words, message", [
     (("1500", "1500"), ["--out", "a.bmp/"], "`a.bmp/` ends in a slash"),
-    (("1500", "1400"), [], "values of the instance are not those of this plan"),
+    (("1500", "1400"), [], "values of the instance differ from this plan's"),
     (("1500", "1500"), ["--out", "mine.plan", "--out", "mine.plan"], "two files would have this name"),
 ])
-def test_what_is_wrong_is_reported_in_a_line(tmp_path, monkeypatch, capsys, change, words, told):
+def test_what_is_wrong_is_reported_in_a_line(tmp_path, monkeypatch, capsys, change, words, message):
     monkeypatch.chdir(tmp_path)
     mines.six_blocks(tmp_path)
     plan = (tmp_path / "mine.plan").read_text()
@@ -139,5 +139,5 @@ def test_what_is_wrong_is_reported_in_a_line(tmp_path, monkeypatch, capsys, chan
     (tmp_path / "mine.plan").write_text(plan.replace(*change))
     assert main(["nested", "mine.plan", "mine", *words]) == 2
     error = capsys.readouterr().err
-    assert told in error and error.count("\n") == 1
+    assert message in error and error.count("\n") == 1
     assert [path.name for path in tmp_path.iterdir() if path.suffix == ".pit"] == []

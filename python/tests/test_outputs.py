@@ -52,8 +52,8 @@ def test_an_export_is_not_written_over(here, capsys, make):
     read = "export.csv" if os.path.exists("export.csv") else "mine-all.csv"
     before = files_of(here)
     assert main(["import", read, *WORDS, "--out", "mine", "--force"]) == 2
-    told = capsys.readouterr().err
-    assert "mine-all.csv" in told and read in told and "reads" in told
+    message = capsys.readouterr().err
+    assert "mine-all.csv" in message and read in message and "reads" in message
     assert files_of(here) == before
 
 
@@ -64,7 +64,7 @@ def test_a_dash_is_no_file_if_nothing_is_printed(here, capsys):
     for words in (["pit", base], ["bounds", base], ["solve", base + ".cpit", base + ".prec"],
                   ["lp", base + ".upit", base + ".prec", "--dimacs"]):
         assert main([*words, "--out", "-"]) == 2 and files_of(here) == before
-        assert "-: this goes to a file alone" in capsys.readouterr().err
+        assert "-: the output must be a file" in capsys.readouterr().err
     assert main(["lp", base + ".upit", base + ".prec", "--out", "-"]) == 0
     assert capsys.readouterr().out.startswith("\\ ")
     write("./-", "0\n")
@@ -127,13 +127,13 @@ def test_the_old_files_come_back_if_a_rename_fails(here, monkeypatch, fails_at):
     write("three", "1\n")
     before, calls, replace = files_of(here), [], os.replace
 
-    def refusing(source, target):
+    def failing(source, target):
         calls.append(target)
         if len(calls) == fails_at + 1:
             raise OSError(5, "Input/output error")
         replace(source, target)
 
-    monkeypatch.setattr(os, "replace", refusing)
+    monkeypatch.setattr(os, "replace", failing)
     with pytest.raises(OSError) as fault, outputs.together():
         for name in ("one", "two", "three"):
             write(name, "2\n")
@@ -141,7 +141,7 @@ def test_the_old_files_come_back_if_a_rename_fails(here, monkeypatch, fails_at):
     assert files_of(here) == before
 
 
-def test_two_files_of_one_name_are_refused(here):
+def test_two_files_of_one_name_are_rejected(here):
     with pytest.raises(UserError, match="two files would have this name"), outputs.together():
         write("one", "1\n")
         write("./one", "2\n")
@@ -215,7 +215,7 @@ def test_a_signal_leaves_the_old_files_alone(here, number):
     assert files_of(here) == {"one": b"1\n"}
 
 
-def test_a_kill_leaves_the_old_files_and_names_that_say_what_they_are(here):
+def test_a_kill_leaves_the_old_files_and_names_that_show_what_they_are(here):
     write("one", "1\n")
     assert ended(signal.SIGKILL) == -signal.SIGKILL
     found = files_of(here)
@@ -239,13 +239,13 @@ def test_a_folder_that_was_made_goes_again(here):
     assert files_of(here) == {}
 
 
-def test_every_command_that_writes_says_what_it_replaces(capsys):
+def test_every_command_that_writes_states_what_it_replaces(capsys):
     for command in ("import", "plan", "compile", "back", "report", "nested", "shell", "survey",
                     "read", "pit", "lp", "solve", "check-schedule", "minelib", "deposit", "vary",
                     "by-zone", "library"):
         assert main([command, "--help"]) == 0
-        told = capsys.readouterr().out
-        assert "It replaces" in told and "--force" in told, command
+        message = capsys.readouterr().out
+        assert "It replaces" in message and "--force" in message, command
 
 
 CALLS = ("open", "fchmod", "fsync", "link", "replace")
@@ -286,7 +286,7 @@ def fail():
 
 
 @pytest.mark.parametrize("name", CALLS)
-def test_each_refused_call_leaves_all_old_or_all_new(here, versions, name, capsys):
+def test_each_failed_call_leaves_all_old_or_all_new(here, versions, name, capsys):
     old, new = versions
     for nth in range(1, 100):
         for file, content in old.items():
@@ -297,10 +297,10 @@ def test_each_refused_call_leaves_all_old_or_all_new(here, versions, name, capsy
         if len(calls) < nth:
             assert nth > 5
             return
-        told = capsys.readouterr().err
-        assert (status, files_of(here)) in ((2, old), (0, new)), f"{name} {nth}: {told}"
-        assert told.count("\n") == (status == 2) and (status == 0
-                                                      or any(file in told for file in old))
+        message = capsys.readouterr().err
+        assert (status, files_of(here)) in ((2, old), (0, new)), f"{name} {nth}: {message}"
+        assert message.count("\n") == (status == 2) and (status == 0
+                                                         or any(file in message for file in old))
 
 
 @pytest.mark.parametrize("name", CALLS)

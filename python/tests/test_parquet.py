@@ -70,22 +70,22 @@ def test_an_export_in_parquet_gives_the_mine_of_the_same_in_csv(here):
         texts.append([(here / path).read_bytes() for path in imported.write("from")])
         texts.append(imported.report.text().split("\n", 1)[1])
     assert texts[0] == texts[2] and len(texts[0]) == 3
-    assert texts[1] == texts[3] and "left out: 255 rows without tonnes" in texts[1]
+    assert texts[1] == texts[3] and "omitted: 255 rows without tonnes" in texts[1]
 
 
 @pytest.mark.parametrize("column, at, cell", [("TONNES", 41, "abc"), ("AU", 0, "1.2 g/t"), ("X", 979, None)])
-def test_a_cell_is_refused_with_its_row(here, column, at, cell):
+def test_a_cell_is_rejected_with_its_row(here, column, at, cell):
     frame = mine().astype({column: object})
     frame[column] = [None if value is None or value != value else str(value) for value in frame[column]]
     frame.loc[at, column] = cell
     put(frame)
     texts_of(frame).to_csv("a.csv", index=False)
-    told = []
+    message = []
     for name in ("a.parquet", "a.csv"):
-        with pytest.raises(UserError) as refused:
+        with pytest.raises(UserError) as rejected:
             import_export([name], Words(**USUAL))
-        told.append(str(refused.value))
-    assert told[0] == told[1].replace(f"a.csv: line {at + 2}", f"a.parquet: row {at + 1}")
+        message.append(str(rejected.value))
+    assert message[0] == message[1].replace(f"a.csv: line {at + 2}", f"a.parquet: row {at + 1}")
 
 
 def test_cells_are_what_a_csv_file_of_them_has():
@@ -107,18 +107,18 @@ def test_an_index_with_a_name_is_a_column(here):
 
 @pytest.mark.parametrize("words, message", [
     ({"grade": "CU"}, "a.parquet: no column `CU`: there are `X` `Y` `Z` `TONNES` `AU` `ZONE`"),
-    ({"names": ["X"]}, "a.parquet: --names is for a text without a header, and Parquet has names")])
-def test_words_that_do_not_fit_are_refused(here, words, message):
+    ({"names": ["X"]}, "a.parquet: --names is for a text without a header, but Parquet has names")])
+def test_words_that_do_not_fit_are_rejected(here, words, message):
     put(mine())
-    with pytest.raises(UserError) as refused:
+    with pytest.raises(UserError) as rejected:
         import_export(["a.parquet"], Words(**{**USUAL, **words}))
-    assert str(refused.value) == message
+    assert str(rejected.value) == message
 
 
 @pytest.mark.parametrize("fault, message", [
-    (ImportError("no engine"), "it is a Parquet file, and no package is there .*install pyarrow"),
+    (ImportError("no engine"), "it is a Parquet file, and no package .* is installed: install pyarrow"),
     (OSError("Couldn't deserialize thrift"), "the Parquet file cannot be read: Couldn't deserialize")])
-def test_without_a_package_or_damaged_it_is_refused(here, monkeypatch, capsys, fault, message):
+def test_without_a_package_or_damaged_it_is_rejected(here, monkeypatch, capsys, fault, message):
     put(mine())
 
     def fails(path):
@@ -170,7 +170,7 @@ def test_rows_of_parquet_are_not_printed_nor_put_over_other_files(here, capsys):
     again = ["back", "mine.plan", "mine", "schedule", "--onto", "from.json"]
     capsys.readouterr()
     assert main(again) == 2
-    assert "the export is Parquet, which is not printed: give --out" in capsys.readouterr().err
+    assert "the export is Parquet, which cannot be printed: give --out" in capsys.readouterr().err
     assert main([*again, "--out", "out.parquet"]) == 0
     before = (here / "a.parquet").read_bytes()
     assert main([*again, "--out", "a.parquet"]) == 2
@@ -179,6 +179,6 @@ def test_rows_of_parquet_are_not_printed_nor_put_over_other_files(here, capsys):
     assert main([*again, "--out", "other.parquet"]) == 2
 
 
-def test_a_name_that_is_repeated_is_refused():
+def test_a_name_that_is_repeated_is_rejected():
     with pytest.raises(UserError, match="the export has a column `mined` already"):
         bytes_of(pd.concat([mine().assign(mined=1), pd.DataFrame({"mined": [1]})], axis=1))

@@ -44,20 +44,20 @@ def test_a_plan_is_read_with_its_units_and_written_as_it_was():
     assert plan.text() == tidy
 
 
-@pytest.mark.parametrize("edit, told", [
+@pytest.mark.parametrize("edit, message", [
     (("zone,1,1,9", "zone,1,1"), "record 3: a zone has p, q, K"),
     (("rate,0.08\n", ""), "record 12: the plan ends without a record rate"),
-    (("mill,mill,920", "mill,mill,0.92"), "record 5: `0.92` is no whole number"),
-    (("resource,fleet,mill", "resource,fleet,plant"), "`plant` stands in no earlier record"),
-    (("name,pit", "x,y,z"), "record 1: `x` is no key of a plan"),
-    (("20,20,10", "20,0,10"), "`0`: a size of the grid is from 0.001 to 100"),
-    (("zone,1,1,9", "zone,1,1,99999"), "record 3: `99999`: K is from 1 to 20"),
-    (("dump ,180", "dump ,1e18"), "`1e18` is no number"),
-    (("mill,mill", "mill,a mill"), "record 5: `a mill` is no name"),
-    (("name,pit", "name,pit\nname,pit"), "record 2: `name` stands twice"),
+    (("mill,mill,920", "mill,mill,0.92"), "record 5: `0.92` is not an integer"),
+    (("resource,fleet,mill", "resource,fleet,plant"), "`plant` is in no earlier record"),
+    (("name,pit", "x,y,z"), "record 1: `x` is not a key of a plan"),
+    (("20,20,10", "20,0,10"), "`0`: a size of the grid must be from 0.001 to 100"),
+    (("zone,1,1,9", "zone,1,1,99999"), "record 3: `99999`: K must be from 1 to 20"),
+    (("dump ,180", "dump ,1e18"), "`1e18` is not a number"),
+    (("mill,mill", "mill,a mill"), "record 5: `a mill` is not a name"),
+    (("name,pit", "name,pit\nname,pit"), "record 2: `name` appears twice"),
 ])
-def test_a_plan_that_cannot_be_understood_names_its_record(edit, told):
-    with pytest.raises(UserError, match=told):
+def test_a_plan_that_cannot_be_understood_names_its_record(edit, message):
+    with pytest.raises(UserError, match=message):
         plan_of(PLAN.replace(*edit))
 
 
@@ -107,14 +107,14 @@ def test_a_zone_file_is_read_by_names_and_written_back(tmp_path):
     assert np.array_equal(read_zone_file(str(again)), rows)
 
 
-@pytest.mark.parametrize("text, told", [
+@pytest.mark.parametrize("text, message", [
     ("x,y,z,tonnes\n", "no column `grade`"),
     ("x,y,z,tonnes,grade\n0,0,0,1,2\n0,0,0,NA,2\n", "row 3: column tonnes has `NA`"),
     ("x,y,z,tonnes,grade\n0,0,0,1,2\n0,0,0,1,2,3\n", "line 3"),
     ("x,y,z,tonnes,grade\n0,0,0,1,2\n\n0,0,0,1\n", "row 3 has fewer cells"),
 ])
-def test_a_zone_file_that_cannot_be_read_names_its_row(tmp_path, text, told):
+def test_a_zone_file_that_cannot_be_read_names_its_row(tmp_path, text, message):
     path = tmp_path / "zone.csv"
     path.write_text(text)
-    with pytest.raises(UserError, match=told):
+    with pytest.raises(UserError, match=message):
         read_zone_file(str(path))

@@ -22,7 +22,7 @@ def rows():
                 yield plan, line if line.startswith("plan") else TAKEN
 
 
-def answer(path):
+def result(path):
     """The same line by `read_plan`."""
     try:
         read_plan(str(path))
@@ -39,7 +39,7 @@ def test_read_plan_returns_what_the_tables_state(tmp_path):
     path, kinds = tmp_path / "a.plan", set()
     for plan, line in rows():
         path.write_bytes(plan)
-        assert answer(path) == line, plan[-200:]
+        assert result(path) == line, plan[-200:]
         kinds.add(line.rpartition(" ")[2])
     assert kinds == {"Key", "Width", "Number", "TooFine", "Range", "Name", "Twice", "Order",
                      "TooMany", "Missing", "TooLong", "Files"}
@@ -51,7 +51,7 @@ def test_pitc_returns_what_read_plan_does(pitc, tmp_path):
         path = tmp_path / f"{number}.plan"
         path.write_bytes(plan)
         done = subprocess.run([pitc], input=plan, capture_output=True, check=False)
-        return done.stderr.decode(), f"pitc: {answer(path)}\n"
+        return done.stderr.decode(), f"pitc: {result(path)}\n"
 
     with ThreadPool(4) as pool:
         found = pool.map(lines_of, enumerate(rows()), chunksize=16)

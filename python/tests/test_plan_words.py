@@ -6,7 +6,7 @@ import pytest
 from pit_tools.errors import UserError
 from pit_tools.plans.file import Grid, Slope, plan_of
 from pit_tools.plans.slopes import degrees_of, slope_of, slopes_of
-from pit_tools.plans.words import Purse, Spoken, Told, plan_from, price_of, sides_of
+from pit_tools.plans.words import Explained, Purse, Spoken, plan_from, price_of, sides_of
 from pit_tools.texts.units import Measures
 
 GRID = Grid((Decimal(1000), Decimal(2000), Decimal(300)), (Decimal(20), Decimal(20), Decimal(10)))
@@ -72,7 +72,7 @@ def test_a_short_ton_of_rock_is_less_than_a_tonne():
     assert "dump,dump,198\n" in plan_text(dump=["cost 1.80 USD/st"])          # 1.80 / 0.90718474
 
 
-def test_a_return_brings_what_it_says():
+def test_a_return_brings_what_it_states():
     # A return of 30 a tonne, as grade 30: 1 t has 0.03 kg, which earn 3,000 cents at 100,000
     # cents a kilogram.
     text = plan_text(price="", grade_unit="USD/t", mill=["cost 12 USD/t"], leach=[], limit=[])
@@ -90,73 +90,73 @@ def test_a_flat_slope_is_never_steeper_than_its_degrees():
 
 
 def test_sectors_of_azimuth_become_the_sides_that_lie_in_them():
-    told = Told()
-    four = sides_of("315-45 50, 45-135 40, 135-225 30, 225-315 60", 90, told)
+    message = Explained()
+    four = sides_of("315-45 50, 45-135 40, 135-225 30, 225-315 60", 90, message)
     assert [round(degrees_of(slope)) for slope in four] == [40, 60, 50, 30]
     # The model's +x points to bearing 180, so its +y to 90.
-    four = sides_of("315-45 50, 45-135 40, 135-225 30, 225-315 60", 180, told)
+    four = sides_of("315-45 50, 45-135 40, 135-225 30, 225-315 60", 180, message)
     assert [round(degrees_of(slope)) for slope in four] == [30, 50, 40, 60]
-    assert not any("border" in note for note in told.notes)
-    four = sides_of("0-180 50, 180-360 40", 90, told)
+    assert not any("border" in note for note in message.notes)
+    four = sides_of("0-180 50, 180-360 40", 90, message)
     assert [round(degrees_of(slope)) for slope in four] == [50, 40, 40, 40]
-    assert sum("border" in note for note in told.notes) == 2 and not told.doubts
+    assert sum("border" in note for note in message.notes) == 2 and not message.doubts
 
 
-@pytest.mark.parametrize("changed, told", [
-    ({"mill": ["recovery 0.92, cost 16.50 USD/t"]}, "say percent"),
+@pytest.mark.parametrize("changed, message", [
+    ({"mill": ["recovery 0.92, cost 16.50 USD/t"]}, "give percent"),
     ({"mill": ["recovery 920 %, cost 16.50 USD/t"]}, "not from 0 to 100"),
-    ({"mill": ["recovery 92 %, cost 16.50 USD"]}, "say for what"),
-    ({"mill": ["recovery 92 %, cost 16,50 USD/t"]}, "numbers have a decimal point"),
-    ({"price": "1804 USD"}, "say for what"), ({"price": "61 USD/t"}, "count all money in parts"),
-    ({"price": "1804 USD/oz/t"}, "say for what"),
-    ({"leach": ["heap: cost 6 USD/t, 48 % from 0.6 g/t, 30 % from 0.2 g/t"]}, "bands rise"),
-    ({"leach": ["heap: cost 6 USD/t, 0.2 300"]}, "a band is as"),
+    ({"mill": ["recovery 92 %, cost 16.50 USD"]}, "give the unit"),
+    ({"mill": ["recovery 92 %, cost 16,50 USD/t"]}, "write numbers with a decimal point"),
+    ({"price": "1804 USD"}, "give the unit"), ({"price": "61 USD/t"}, "count all money in parts"),
+    ({"price": "1804 USD/oz/t"}, "give the unit"),
+    ({"leach": ["heap: cost 6 USD/t, 48 % from 0.6 g/t, 30 % from 0.2 g/t"]}, "bands must rise"),
+    ({"leach": ["heap: cost 6 USD/t, 0.2 300"]}, "write a band as"),
     ({"slope": ["45", "north: 50"]}, "no zone `north`"),
     ({"slope": ["E 45, W 50"]}, r"no slope for \+y, -y"), ({"slope": ["95"]}, "give 1 to 89"),
     ({"slope": ["0-90 45, 90-180 50"]}, "180 degrees wide"),
     ({"limit": ["crusher: plant, at most 1 Mt"]}, "no destination `plant`"),
-    ({"limit": ["crusher: mill, at most 2.5 million"]}, "the unit is t, kt or Mt"),
+    ({"limit": ["crusher: mill, at most 2.5 million"]}, "the unit must be t, kt or Mt"),
     ({"limit": ["crusher: mill, at most 1 Mt", "crusher: at least 0.5 Mt"]}, "give both ends"),
     ({"limit": ["crusher: mill, at most 1 Mt, period 4"]}, "periods are 0 to 3"),
     ({"limit": ["crusher: mill, 2 Mt to 1 Mt"]}, "falls"),
-    ({"periods": "16 quarters"}, "a year or a period"), ({"rate": "0.08"}, "give percent a year"),
+    ({"periods": "16 quarters"}, "in a year or a period"), ({"rate": "0.08"}, "give percent per year"),
     ({"dump": ["mill: cost 1 USD/t"]}, "two destinations `mill`"),
     ({"price": "1804 AUD/oz"},
-     "--mill: mill: cost is in USD, and --price in AUD: a plan has one currency"),
-    ({"price": "1804 USD/oz, selling 45 AUD/oz"}, "--price: selling is in AUD, and --price in USD"),
-    ({"mining": "2 EUR/t"}, "--price is in USD, and --mining in EUR"),
-    ({"mining": "1,80 USD/t"}, "`1,80`: numbers have a decimal point"),
-    ({"rate": "8,5 %"}, "`8,5`: numbers have a decimal point"),
-    ({"rate": "8.12345 % a period"}, "percent have 4 decimals at the most"),
-    ({"price": "9" * 40 + " USD/oz"}, "is too great or too small a number"),
-    ({"price": "9" * 14 + " USD/oz"}, "and a plan takes 1 to 100,000,000"),
-    ({"mining": "9" * 14 + " USD/t"}, "and a plan takes 0 to 10,000,000"),
-    ({"leach": ["heap: cost 6 USD/t, 30.55 % from 0.2 g/t"]}, "a recovery has one decimal"),
-    ({"limit": ["crusher: mill, at least -1 Mt"]}, "a plan takes 0 to 1,000,000,000,000 t"),
-    ({"limit": ["crusher: mill, at most 2000000 Mt"]}, "a plan takes 0 to"),
+     "--mill: mill: cost is in USD, but --price in AUD: a plan has one currency"),
+    ({"price": "1804 USD/oz, selling 45 AUD/oz"}, "--price: selling is in AUD, but --price in USD"),
+    ({"mining": "2 EUR/t"}, "--price is in USD, but --mining in EUR"),
+    ({"mining": "1,80 USD/t"}, "`1,80`: write numbers with a decimal point"),
+    ({"rate": "8,5 %"}, "`8,5`: write numbers with a decimal point"),
+    ({"rate": "8.12345 % a period"}, "percent have at most 4 decimals"),
+    ({"price": "9" * 40 + " USD/oz"}, "is too large or too small a number"),
+    ({"price": "9" * 14 + " USD/oz"}, "but a plan needs 1 to 100,000,000"),
+    ({"mining": "9" * 14 + " USD/t"}, "but a plan needs 0 to 10,000,000"),
+    ({"leach": ["heap: cost 6 USD/t, 30.55 % from 0.2 g/t"]}, "a recovery has at most one decimal"),
+    ({"limit": ["crusher: mill, at least -1 Mt"]}, "a plan needs 0 to 1,000,000,000,000 t"),
+    ({"limit": ["crusher: mill, at most 2000000 Mt"]}, "a plan needs 0 to"),
     ({"periods": "9" * 500}, "give 1 to 100"),
     ({"slope": ["9" * 500 + ":1"]}, "give"),
     ({"periods": "9" * 5000}, "--periods: `9+` has more than 1,000 characters"),
     ({"slope": ["45", "9" * 5000 + ":1"]}, "--slope: `9+` has more than 1,000 characters"),
     ({"price": "", "grade_unit": "USD/t", "mill": ["cost 12 USD/t"], "leach": [], "parts": 10_000},
-     "--parts: a return is counted in 1/1,000 cents at the finest"),
+     "--parts: a return is counted in at most 1/1,000 cents"),
     ({"price": "", "grade_unit": "AUD/t", "mill": ["cost 12 USD/t"], "leach": []},
-     "--mill: mill: cost is in USD, and the grade in AUD")])
-def test_words_that_cannot_be_right_are_named(changed, told):
-    with pytest.raises(UserError, match=told):
+     "--mill: mill: cost is in USD, but the grade in AUD")])
+def test_words_that_cannot_be_right_are_named(changed, message):
+    with pytest.raises(UserError, match=message):
         plan_text(**changed)
 
 
-@pytest.mark.parametrize("changed, told", [
+@pytest.mark.parametrize("changed, message", [
     ({"dump": [], "limit": []}, "there is no dump"),
     ({"mill": ["recovery 92 %, cost 1.50 USD/t"]}, "a tonne costs 1.50 USD at mill, no more than at dump"),
     ({"mill": ["recovery 9.2 %, cost 16.50 USD/t"]}, "mill recovers 9.2 % at most"),
     ({"mill": ["recovery 100 %, cost 16.50 USD/t"]}, "mill recovers 100 %"),
     ({"K": 2}, "K is too small: zone oxide: K = 2 makes a pit of"),
 ])
-def test_what_may_be_wrong_is_reported(changed, told):
+def test_what_may_be_wrong_is_reported(changed, message):
     _, explained = plan_from(Spoken(**{**WORDS, **changed}), GRID, ["oxide", "west"], 12)
-    assert any(told in doubt for doubt in explained.doubts)
+    assert any(message in doubt for doubt in explained.doubts)
     _, sound = plan_from(Spoken(**{**WORDS, "K": None}), GRID, ["oxide", "west"], 12)
     assert not sound.doubts
 
@@ -170,8 +170,8 @@ def test_what_is_taken_without_a_word_is_a_note():
     plan, explained = plan_from(Spoken(**{**WORDS, "rate": "", "periods": "", "limit": []}), GRID,
                                 ["oxide", "west"], 12)
     assert (plan.periods, plan.rate) == (1, Decimal("0.08"))
-    assert {"--periods was not given: 1 year is taken",
-            "--rate was not given: 8 % a year is taken"} <= set(explained.notes)
+    assert {"--periods was not given: 1 year is used",
+            "--rate was not given: 8 % a year is used"} <= set(explained.notes)
     _, sound = plan_from(Spoken(**WORDS), GRID, ["oxide", "west"], 12)
     assert not any("not given" in note for note in sound.notes)
 

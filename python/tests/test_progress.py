@@ -55,16 +55,16 @@ def on_terminal(words, folder, is_printed_there=False, **more):
     shown = b""
     while True:
         try:
-            piece = os.read(ours, 1 << 16)
+            chunk = os.read(ours, 1 << 16)
         except OSError:
             break
-        if not piece:
+        if not chunk:
             break
-        shown += piece
-    told = child.stdout.read() if child.stdout else ""
+        shown += chunk
+    message = child.stdout.read() if child.stdout else ""
     status = child.wait()
     os.close(ours)
-    return status, told, shown.decode("utf-8", "replace")
+    return status, message, shown.decode("utf-8", "replace")
 
 
 def apart(words, folder, **more):
@@ -80,8 +80,8 @@ def what_stays(shown: str) -> str:
     lines = []
     for line in shown.replace("\r\n", "\n").split("\n"):
         seen = ""
-        for piece in line.split("\r"):
-            seen = piece + seen[len(piece):]
+        for chunk in line.split("\r"):
+            seen = chunk + seen[len(chunk):]
         lines.append(seen.rstrip())
     return "\n".join(lines)
 
@@ -106,28 +106,28 @@ IMPORT = ["import", "export.csv", "--x", "x", "--y", "y", "--z", "z", "--tonnes"
     (["pit", "mine", "--plan", "mine.plan", "--K", "1,2"], ["K = 1", "K = 2"]),
 ])
 def test_a_bar_is_seen_on_a_terminal_alone_and_nothing_of_it_stays(folder, words, seen):
-    status, told, shown = on_terminal(words, folder)
+    status, message, shown = on_terminal(words, folder)
     assert status == 0 and all(text in shown for text in seen), shown
     assert f"{words[0]} |" in shown and what_stays(shown).strip() == ""
-    assert apart(words, folder) == (0, told, "")
+    assert apart(words, folder) == (0, message, "")
     # What is printed on the same terminal appears there as it does elsewhere.
     status, _, shown = on_terminal(words, folder, is_printed_there=True)
-    assert status == 0 and what_stays(shown) == told.rstrip("\n") + "\n"
+    assert status == 0 and what_stays(shown) == message.rstrip("\n") + "\n"
 
 
 def test_rows_that_are_printed_have_no_bar(folder):
     assert apart(IMPORT, folder)[0] == 0
     (folder / "mine.pit").write_text("0\n3\n4\n")
     words = ["back", "mine.plan", "mine", "mine.pit", "--onto", "from.json"]
-    status, told, error = apart(words, folder)
+    status, message, error = apart(words, folder)
     assert (status, error) == (0, "6 rows, of which 6 are blocks of the instance\n")
     status, _, shown = on_terminal(words, folder, is_printed_there=True)
-    lines = (told + error).splitlines()
+    lines = (message + error).splitlines()
     assert status == 0 and sorted(shown.replace("\r", "").splitlines()) == sorted(lines)
     assert "back |" in on_terminal([*words, "--out", "rows.csv"], folder)[2]
 
 
-def test_a_fault_is_alone_after_the_bar(folder):
+def test_a_error_is_alone_after_the_bar(folder):
     os.remove(folder / "mine.pcpsp")
     words = ["survey", "mine.plan", "mine"]
     status, _, shown = on_terminal(words, folder)
@@ -156,24 +156,24 @@ def test_compile_shows_bytes_and_passes_on_line_and_status(folder, fault, status
     assert apart(COMPILE, folder, FAULT=fault) == wanted
     os.remove(folder / "slow.prec")
     for is_printed_there in (False, True):
-        ended, told, shown = on_terminal(COMPILE, folder, is_printed_there, FAULT=fault)
+        ended, message, shown = on_terminal(COMPILE, folder, is_printed_there, FAULT=fault)
         assert ended == status and "compile reads |" in shown
         assert re.search(r"compile writes slow.prec [1-9][0-9.]*k?B", shown)
         assert what_stays(shown) == (line if fault or is_printed_there else "")
-        assert told == ("" if fault or is_printed_there else line)
+        assert message == ("" if fault or is_printed_there else line)
 
 
 def test_compile_reports_a_file_that_the_system_does_not_store(folder, monkeypatch, capfd):
     """pitc ends with 0 there, since it does not notice; no record says that the files are
     complete."""
-    def refused(descriptor):
+    def rejected(descriptor):
         if os.readlink(f"/proc/self/fd/{descriptor}").endswith("slow.prec"):
             raise OSError(errno.EDQUOT, "Disk quota exceeded")
 
     monkeypatch.chdir(folder)
     assert main(COMPILE) == 0 and (folder / "slow.sums").exists()
     os.remove(folder / "slow.sums")
-    monkeypatch.setattr(os, "fsync", refused)
+    monkeypatch.setattr(os, "fsync", rejected)
     capfd.readouterr()
     assert main(COMPILE) == 2
     assert capfd.readouterr().err == "pit-tools compile: slow.prec: Disk quota exceeded\n"
@@ -216,8 +216,8 @@ def test_compile_prints_what_pitc_prints(tmp_path, pitc):
                   ["--out", "a", "mine-0.csv"]):
         done = subprocess.run([pitc, "compile", *words], cwd=tmp_path, capture_output=True,
                               text=True, check=False)
-        status, told, error = apart(["compile", "--pitc", pitc, *words], tmp_path)
-        assert (status, told) == (done.returncode, done.stdout), words
+        status, message, error = apart(["compile", "--pitc", pitc, *words], tmp_path)
+        assert (status, message) == (done.returncode, done.stdout), words
         assert error.startswith(done.stderr), words
         reasons = error[len(done.stderr):].splitlines()
         assert all(reason.startswith("pit-tools compile: ") for reason in reasons), words

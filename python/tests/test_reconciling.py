@@ -59,7 +59,7 @@ def reconciled(folder, report, rows=None, expected=(), tolerance=1.0, **words):
                          Wanted(reports, expected, tolerance))
 
 
-def refusal(folder, report, rows=None, **more):
+def error_of(folder, report, rows=None, **more):
     """What `judge` prints, and that nothing is written."""
     found = reconciled(folder, report, rows, **more)
     with pytest.raises(UserError) as stopped:
@@ -85,7 +85,7 @@ def test_a_right_report_agrees(report, tmp_path):
     assert len(found.reconciliation.differences) >= 2
 
 
-def test_words_say_the_same(tmp_path):
+def test_words_mean_the_same(tmp_path):
     found = reconciled(tmp_path, "", expected=["west: 162 kt at 2 g/t, 10.42 koz", "0.262 Mt",
                                                "east: 100 kt at 1.0 g/t above 0.5 g/t"])
     found.reconciliation.judge()
@@ -103,52 +103,52 @@ WRONG = [
     ("kilotonnes", scaled(3, 0.001), {}, "kilotonnes read as tonnes: --tonnes 'COLUMN kt'"),
     ("short tons", scaled(3, 1 / 0.90718474), {}, "short tons read as tonnes: --tonnes 'COLUMN st'"),
     ("tonnes as short tons", None, {"tonnes": "T st"}, "tonnes read as short tons"),
-    ("parts a billion", scaled(4, 1000), {}, "west has grade of .* parts a billion read as g/t"),
+    ("parts a billion", scaled(4, 1000), {}, "west has grade of .* parts per billion read as g/t"),
     ("percent", scaled(4, 0.0001), {}, "percent read as g/t: --grade 'COLUMN %'"),
-    ("ounces a tonne", scaled(4, 1 / 31.1034768), {}, "ounces a tonne read as g/t"),
-    ("ounces a short ton", scaled(4, 1 / 34.285718), {}, "ounces a short ton read as g/t"),
+    ("ounces a tonne", scaled(4, 1 / 31.1034768), {}, "ounces per tonne read as g/t"),
+    ("ounces a short ton", scaled(4, 1 / 34.285718), {}, "ounces per short ton read as g/t"),
     ("ounces a tonne, twice", None, {"grade": "AU oz/tonne"}, "that is 31.1 times the report"),
     ("one zone in another unit", scaled(4, 0.001, "east"), {},
-     "report.csv: line 3: east has grade of 1.0000 g/t, and the model 0.0010"),
+     "report.csv: line 3: east has grade of 1.0000 g/t, but the model 0.0010"),
     ("zones exchanged", lambda row: [*row[:6], {"west": "east", "east": "west"}[row[6]]], {},
      "zone east has that, so zones are exchanged"),
     ("half of the rows", lambda row: row if row[1] % 20 == 0 else None, {},
      "half of the rows, or blocks of half the size"),
     ("a density of all rock", scaled(3, 1.2), {}, r"west has tonnes .*\+20.00 % east, the total"),
     ("rows left out", lambda row: [*row[:3], -99 if row[0] < 20 else row[3], *row[4:]], {},
-     "24 rows of west are left out, since they have no tonnes"),
-    ("rows of a filter", None, {"where": ["X > 10"]}, "40 rows are left out by --where"),
+     "24 rows of west are omitted, since they have no tonnes"),
+    ("rows of a filter", None, {"where": ["X > 10"]}, "40 rows are omitted by --where"),
     ("a missing second metal", lambda row: [*row[:5], -99 if row[0] < 20 else 0.0, row[6]],
      {"grade": "AU*(58+CU*82)/58"}, "a second metal: CU is missing in 24 rows"),
     ("a zone that is lost", lambda row: [*row[:3], -99 if row[6] == "east" else row[3], *row[4:]], {},
-     "east has tonnes of 100,000 t, and the model 0, -100.00 %: 40 rows of east are left out"),
+     "east has tonnes of 100,000 t, but the model 0, -100.00 %: 40 rows of east are omitted"),
 ]
 
 
 @pytest.mark.parametrize("change, words, message", [one[1:] for one in WRONG],
                          ids=[one[0] for one in WRONG])
 def test_a_wrong_mine_stops_with_its_zone_and_cause(change, words, message, tmp_path):
-    told = refusal(tmp_path, TRUE, rows_of(change) if change else None, **words)
+    told = error_of(tmp_path, TRUE, rows_of(change) if change else None, **words)
     assert re.search(message, told), told
     assert told.startswith("report.csv: line ")
 
 
 def test_a_report_in_kilotonnes_is_reported(tmp_path):
-    told = refusal(tmp_path, "zone,tonnes\nwest,162\n")
-    assert "west has tonnes of 162 t, and the model 162,000, x 1,000: that is 1,000 times" in told
+    told = error_of(tmp_path, "zone,tonnes\nwest,162\n")
+    assert "west has tonnes of 162 t, but the model 162,000, x 1,000: that is 1,000 times" in told
     assert "or a report in kilotonnes" in told
 
 
 def test_blocks_of_another_size_are_reported_by_their_volume(tmp_path):
     report = "zone,tonnes,volume (m3)\nwest,162000,120000\n"
-    assert "half of the rows, or blocks of half the size" in refusal(tmp_path, report)
+    assert "half of the rows, or blocks of half the size" in error_of(tmp_path, report)
 
 
 def test_a_mirrored_mine_is_reported_by_its_extents(tmp_path):
     report = "zone,tonnes,xmin,xmax,ymin,ymax\nwest,162000,0,40,0,50\n"
     reconciled(tmp_path, report).reconciliation.judge()
-    told = refusal(tmp_path, report, x="Y", y="X")
-    assert "west has x max of 40.00, and the model 50.00, +10.00" in told
+    told = error_of(tmp_path, report, x="Y", y="X")
+    assert "west has x max of 40.00, but the model 50.00, +10.00" in told
 
 
 def test_rock_without_a_grade_that_the_report_leaves_out_is_no_difference(tmp_path):
@@ -161,26 +161,26 @@ def test_rock_without_a_grade_that_the_report_leaves_out_is_no_difference(tmp_pa
 
 def test_the_tolerance_and_the_digits_of_the_report(tmp_path):
     reconciled(tmp_path, "", expected=["west: 163.6 kt"]).reconciliation.judge()
-    assert "+1.25 %" in refusal(tmp_path, "", expected=["west: 160 kt"], tolerance=0.9)
+    assert "+1.25 %" in error_of(tmp_path, "", expected=["west: 160 kt"], tolerance=0.9)
     reconciled(tmp_path, "", expected=["west: 160 kt"], tolerance=2).reconciliation.judge()
     reconciled(tmp_path, "", expected=["west: 0.16 Mt"], tolerance=0).reconciliation.judge()
 
 
 @pytest.mark.parametrize("report, message", [
-    ("zone,tonnes\nwst,1\n", "line 2, column zone: no zone `wst`: there are west, east; is it west?"),
-    ("zone,tonnes (tn)\nwest,1\n", r"line 1, column tonnes \(tn\): `tn` is no unit of tonnes"),
-    ("zone,tonnes,grade\nwest,162000,2 grains\n", "line 2, column grade: `grains` is no unit of grade"),
+    ("zone,tonnes\nwst,1\n", "line 2, column zone: no zone `wst`: the zones are west, east; is it west?"),
+    ("zone,tonnes (tn)\nwest,1\n", r"line 1, column tonnes \(tn\): `tn` is not a known unit of tonnes"),
+    ("zone,tonnes,grade\nwest,162000,2 grains\n", "line 2, column grade: `grains` is not a known unit of grade"),
     ("zone,grade\nwest,2\n", "line 1: no column is `tonnes`"),
-    ("zone,tonnes\nwest,\n", "line 2, column tonnes: there are no tonnes"),
-    ("zone,tonnes\nwest,many\n", "line 2, column tonnes: `many` is no number"),
+    ("zone,tonnes\nwest,\n", "line 2, column tonnes: the tonnes are missing"),
+    ("zone,tonnes\nwest,many\n", "line 2, column tonnes: `many` is not a number"),
     ("zone,tonnes,metal\nwest,162000,324\n", "line 2, column metal: the unit is missing"),
-    ("zone,tonnes (mt)\nwest,162\n", "line 1, column tonnes .*`mt` is read in two ways"),
+    ("zone,tonnes (mt)\nwest,162\n", "line 1, column tonnes .*`mt` has two meanings"),
     ("zone,tonnes\nwest,1\nwest,2\n", "line 3: west has a row already in report.csv: line 2"),
-    ("zone,tonnes,tonnage\nwest,1,1\n", "tonnes is the column of tonnes already"),
+    ("zone,tonnes,tonnage\nwest,1,1\n", "tonnes is already the column of tonnes"),
     ("zone,tonnes\n", "no row follows the header"), ("", "it is empty"),
-    ("zone,tonnes\nwest,\"162,000\"\n", "`162,000` is a number with a decimal comma, or one of"),
-    ("zone,tonnes\nwest," + " " * 3000 + "1" + " " * 3000 + "x\n", "is no number")])
-def test_a_report_that_is_not_understood_is_refused_by_its_place(report, message, tmp_path):
+    ("zone,tonnes\nwest,\"162,000\"\n", "`162,000` is a number with a decimal comma, or with a comma"),
+    ("zone,tonnes\nwest," + " " * 3000 + "1" + " " * 3000 + "x\n", "is not a number")])
+def test_a_report_that_is_not_understood_is_rejected_by_its_place(report, message, tmp_path):
     (tmp_path / "report.csv").write_text(report)
     with pytest.raises(UserError, match=message):
         if report:
@@ -191,23 +191,23 @@ def test_a_report_that_is_not_understood_is_refused_by_its_place(report, message
             import_export(["export.csv"], Words(**WORDS), Wanted(["report.csv"]))
 
 
-@pytest.mark.parametrize("text, message", [("west", "`west` is no number"), ("x: 1 t", "no zone `x`"),
+@pytest.mark.parametrize("text, message", [("west", "`west` is not a number"), ("x: 1 t", "no zone `x`"),
                                            ("west: 1 t at 2", "unit"), ("west: 1 furlong", "unit"),
-                                           (": 1 Mt", "no zone stands before the colon"),
-                                           (" : 1 Mt", "no zone stands before the colon"),
+                                           (": 1 Mt", "no zone precedes the colon"),
+                                           (" : 1 Mt", "no zone precedes the colon"),
                                            ("west: -3 Mt", "the tonnes `-3 Mt` is below 0"),
                                            ("west: (3) Mt", "the tonnes `.3. Mt` is below 0"),
                                            ("3 t at -2 g/t", "the grade `-2 g/t` is below 0")])
-def test_words_that_are_not_understood_are_refused(text, message, tmp_path):
+def test_words_that_are_not_understood_are_rejected(text, message, tmp_path):
     if message == "unit" and text.endswith("2"):
         found = reconciled(tmp_path, "", expected=[text])
-        assert "taken: grade in g/t, since the report says no unit" in found.report.text()
+        assert "unit used: grade in g/t, since the report states none" in found.report.text()
         return
     with pytest.raises(UserError, match=message):
         reconciled(tmp_path, "", expected=[text])
 
 
-def test_without_a_report_the_table_is_printed_and_what_was_not_compared_is_said_once(tmp_path):
+def test_without_a_report_the_table_is_printed_and_what_was_not_compared_is_reported_once(tmp_path):
     rows = rows_of(lambda row: [*row[:3], -99 if row[0] == 0 and row[6] == "west" else row[3],
                                 "n.d." if row[0] == 10 else row[4], *row[5:]])
     text = reconciled(tmp_path, "", rows, missing=["n.d."]).report.text()
@@ -289,7 +289,7 @@ def test_plan_compares_and_prints_what_zones_are_worth(tmp_path, monkeypatch, ca
     path.write_text(path.read_text().replace(",2700,", ",2970,"))
     (tmp_path / "mine.plan").unlink()
     assert main([*PLAN, "--edited"]) == 2
-    assert "zone files: west has tonnes of 162,000 t, and the model 178,200" in capsys.readouterr().err
+    assert "zone files: west has tonnes of 162,000 t, but the model 178,200" in capsys.readouterr().err
     assert not (tmp_path / "mine.plan").exists()
 
 

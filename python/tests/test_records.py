@@ -54,12 +54,12 @@ def here(tmp_path, monkeypatch, capsys):
 COMPILE = ["compile", "--plan", "mine.plan", "--out", "mine", *ZONES, "--pitc", "./pitc"]
 
 
-def refusal(words, capsys):
+def error_of(words, capsys):
     """Returns the one line with which a command fails."""
     assert main(words) == 2
-    told = capsys.readouterr().err
-    assert told.count("\n") == 1
-    return told
+    message = capsys.readouterr().err
+    assert message.count("\n") == 1
+    return message
 
 
 def change(path, old, new):
@@ -103,12 +103,12 @@ def test_one_run_is_read_by_each_command(here, capsys):
 @pytest.mark.parametrize("words", [PLAN, COMPILE, SURVEY], ids=lambda words: words[0])
 def test_a_cell_that_was_changed_is_noticed(here, capsys, words):
     change(here / "from-west.csv", ",1000,", ",1001,")
-    told = refusal(words, capsys)
-    assert ("from-west.csv: it is not the file that from.json.sums names" in told
-            and "run `pit-tools import` again" in told and "--edited" in told)
+    message = error_of(words, capsys)
+    assert ("from-west.csv: it is not the file that from.json.sums names" in message
+            and "run `pit-tools import` again" in message and "--edited" in message)
     assert main([*words, "--edited"]) == 0
-    told = "- FILES: from-west.csv: it is not the file that from.json.sums names"
-    assert (told in capsys.readouterr().out) == (words is SURVEY)
+    message = "- FILES: from-west.csv: it is not the file that from.json.sums names"
+    assert (message in capsys.readouterr().out) == (words is SURVEY)
 
 
 @pytest.mark.parametrize("name, words", [
@@ -129,7 +129,7 @@ def test_each_command_that_reads_notices(here, capsys, name, words):
     (here / "some.pit").write_text("0\n")
     with open(name, "a") as file:
         file.write("\n")
-    assert f"{name}: it is not the file that {name.split('.')[0]}" in refusal(words, capsys)
+    assert f"{name}: it is not the file that {name.split('.')[0]}" in error_of(words, capsys)
 
 
 @pytest.mark.parametrize("name, old, new", [("mine.plan", "0.08", "0.09"),
@@ -143,12 +143,12 @@ def test_an_edited_file_passes_with_what_was_made_of_it(here, capsys, name, old,
         capsys.readouterr()
         assert main(words) == 0
     assert f"- FILES: {name}: it is not the file that" in capsys.readouterr().out
-    assert "of which other.blocks (with all of other.sums) was made" in refusal(other, capsys)
+    assert "from which other.blocks (with all of other.sums) was made" in error_of(other, capsys)
     change(here / name, new, old)
-    assert "of which mine.blocks (with all of mine.sums) was made" in refusal(SURVEY, capsys)
+    assert "from which mine.blocks (with all of mine.sums) was made" in error_of(SURVEY, capsys)
     assert main(other) == 0
     change(here / name, old, new + "1")
-    assert f"{name}: it is not the file that" in refusal(SURVEY, capsys)
+    assert f"{name}: it is not the file that" in error_of(SURVEY, capsys)
 
 
 @pytest.mark.parametrize("name, old, new", [("mine.plan", "0.08", "0.09"),
@@ -159,26 +159,26 @@ def test_an_edited_file_passes_with_an_instance_in_another_folder(here, capsys, 
     other = [["other/mine" if word == "mine" else word for word in words] for words in (
         COMPILE, SURVEY, ["report", "mine.plan", "mine", "some.pit"])]
     (here / "some.pit").write_text("0\n")
-    assert f"{name}: it is not the file that" in refusal(other[0], capsys)
+    assert f"{name}: it is not the file that" in error_of(other[0], capsys)
     assert main([*other[0], "--edited"]) == 0
     for words in other[1:]:
         assert main(words) == 0
     assert main(other[1]) == 0
     assert f"- FILES: {name}: it is not the file that" in capsys.readouterr().out
-    assert f"{name}: it is not the file" in refusal(SURVEY, capsys)
+    assert f"{name}: it is not the file" in error_of(SURVEY, capsys)
     change(here / name, new, new + "1")
-    assert f"{name}: it is not the file" in refusal(other[1], capsys)
+    assert f"{name}: it is not the file" in error_of(other[1], capsys)
 
 
-def test_complete_runs_that_do_not_belong_together_are_refused(here, capsys):
+def test_complete_runs_that_do_not_belong_together_are_rejected(here, capsys):
     change(here / "export.csv", ",0.5,", ",0.75,")
     assert main(["back", "mine.plan", "mine", "mine.cpit", "--onto", "from.json"]) == 2
     assert main(IMPORT) == 0
     capsys.readouterr()
-    assert "which mine.plan (with all of mine.plan.sums) was made" in refusal(SURVEY, capsys)
+    assert "which mine.plan (with all of mine.plan.sums) was made" in error_of(SURVEY, capsys)
     assert main(PLAN) == 0
     capsys.readouterr()
-    assert "which mine.blocks (with all of mine.sums) was made" in refusal(SURVEY, capsys)
+    assert "which mine.blocks (with all of mine.sums) was made" in error_of(SURVEY, capsys)
     assert main(COMPILE) == 0 and main(SURVEY) == 0
 
 
@@ -199,14 +199,14 @@ def test_a_damaged_record_is_reported_and_replaced(here, capsys, text):
     (here / "from.json.sums").write_text(
         whole[:-20] if text is None else whole.replace("  from-west", " from-west")
         if text == "cut" else text)
-    assert "from.json.sums: this record of sums is damaged" in refusal(PLAN, capsys)
+    assert "from.json.sums: this record of sums is damaged" in error_of(PLAN, capsys)
     os.remove("from.json.sums")
     assert main(IMPORT) == 0 and (here / "from.json.sums").read_text() == whole
 
 
 def test_a_record_that_cannot_be_read_is_named(here, capsys):
     os.symlink("circle.sums", "circle.sums")
-    assert "circle.sums: this record of sums cannot be read" in refusal(["pit", "mine"], capsys)
+    assert "circle.sums: this record of sums cannot be read" in error_of(["pit", "mine"], capsys)
     os.remove("circle.sums")
     assert main(["pit", "mine"]) == 0
 
@@ -236,7 +236,7 @@ def test_a_file_that_is_replaced_alone_leaves_its_record(here):
 # Stale files
 
 
-def test_a_file_of_an_earlier_instance_goes_or_is_refused(here, capsys):
+def test_a_file_of_an_earlier_instance_is_removed_or_rejected(here, capsys):
     assert main(["read", "mine", "--out", "copy"]) == 0
     os.remove("mine.cpit"), os.remove("mine.sums")
     capsys.readouterr()
@@ -244,7 +244,7 @@ def test_a_file_of_an_earlier_instance_goes_or_is_refused(here, capsys):
     assert "\nremoved: copy.cpit\n" in capsys.readouterr().out
     (here / "copy.cpit").write_bytes((here / "made.cpit").read_bytes())
     before = os.stat("copy.blocks").st_ino
-    assert "copy.cpit: it stands beside what is written" in refusal(["read", "mine", "--out",
+    assert "copy.cpit: it has a name of this output" in error_of(["read", "mine", "--out",
                                                                     "copy"], capsys)
     assert os.stat("copy.blocks").st_ino == before and os.path.exists("copy.cpit")
     assert main(["read", "mine", "--out", "copy", "--force"]) == 0
@@ -254,7 +254,7 @@ def test_a_file_of_an_earlier_instance_goes_or_is_refused(here, capsys):
 def test_a_zone_that_is_no_more_loses_its_file_unless_it_was_edited(here, capsys):
     words = [*IMPORT, "--where", 'DOMAIN == "east"']
     change(here / "from-west.csv", ",1000,", ",1001,")
-    assert "from-west.csv: it stands beside" in refusal(words, capsys)
+    assert "from-west.csv: it has a name of this output" in error_of(words, capsys)
     assert "removed: " not in capsys.readouterr().out
     change(here / "from-west.csv", ",1001,", ",1000,")
     assert main(words) == 0 and not os.path.exists("from-west.csv")
@@ -284,47 +284,47 @@ def test_a_record_names_its_inputs_if_a_link_leads_to_its_folder(here):
         os.path.realpath(name) for name in ("mine.plan", *ZONES)]
 
 
-def test_compile_refuses_sums_of_the_user_before_it_replaces_files(here, capsys):
+def test_compile_rejects_sums_of_the_user_before_it_replaces_files(here, capsys):
     (here / "mine.sums").write_text(f"{'0' * 64}  notes.txt\n")
     (here / "mine.blocks").write_text("old\n")
-    assert "mine.sums" in refusal(COMPILE, capsys)
+    assert "mine.sums" in error_of(COMPILE, capsys)
     assert (here / "mine.blocks").read_text() == "old\n"
 
 
 def test_compile_names_the_base_if_its_folder_cannot_be_written(here, capsys):
-    told = refusal(["nowhere/mine" if word == "mine" else word for word in COMPILE], capsys)
-    assert told == ("pit-tools compile: nowhere/mine: its folder cannot be written (No such file "
-                    "or directory), where the lock and the record of sums are: let it be written, "
-                    "or name another place; `pitc compile` itself has neither\n")
+    message = error_of(["nowhere/mine" if word == "mine" else word for word in COMPILE], capsys)
+    assert message == ("pit-tools compile: nowhere/mine: the lock and the record of sums cannot be "
+                       "written in its folder (No such file or directory): make it writable, or name "
+                       "another place; `pitc compile` itself needs neither\n")
 
 
 def test_compile_replaces_no_file_if_it_can_write_files_but_not_their_folder(
         here, capsys, monkeypatch):
     before, real = {name: (here / name).read_bytes() for name in os.listdir(here)}, os.open
 
-    def refusing(path, flags, *words, **named):
+    def failing(path, flags, *words, **named):
         if flags & os.O_CREAT and not os.path.exists(path):
             raise PermissionError(errno.EACCES, "Permission denied", path)
         return real(path, flags, *words, **named)
 
-    monkeypatch.setattr(os, "open", refusing)
+    monkeypatch.setattr(os, "open", failing)
     (here / "made.blocks").write_text("new\n")
-    told = refusal(COMPILE, capsys)
-    assert "mine: its folder cannot be written (Permission denied)" in told
+    message = error_of(COMPILE, capsys)
+    assert "mine: the lock and the record of sums cannot be written in its folder (Permission denied)" in message
     assert {name: (here / name).read_bytes() for name in before} == {**before,
                                                                      "made.blocks": b"new\n"}
 
 
-def test_a_refused_stat_is_an_error(here, monkeypatch, capsys):
+def test_a_failed_stat_is_an_error(here, monkeypatch, capsys):
     real = os.stat
 
-    def refusing(path, *words, **named):
+    def failing(path, *words, **named):
         if os.fspath(path).endswith("mine.cpit"):
             raise PermissionError(errno.EACCES, "Permission denied", path)
         return real(path, *words, **named)
 
-    monkeypatch.setattr(os, "stat", refusing)
-    assert "mine.cpit: Permission denied" in refusal(["read", "mine", "--out", "copy"], capsys)
+    monkeypatch.setattr(os, "stat", failing)
+    assert "mine.cpit: Permission denied" in error_of(["read", "mine", "--out", "copy"], capsys)
     assert not os.path.exists("copy.blocks")
 
 
@@ -351,7 +351,7 @@ def killed(words, name, nth):
 
 
 @pytest.mark.parametrize("is_recorded", [True, False])
-def test_a_kill_between_two_renames_is_refused_by_the_next_command(here, capsys, is_recorded):
+def test_a_kill_between_two_renames_is_rejected_by_the_next_command(here, capsys, is_recorded):
     assert main(PLAN) == 0
     change(here / "export.csv", ",0.5,", ",0.75,")
     text = (here / "export.csv").read_text().replace(",1.5,", ",1.25,")
@@ -359,7 +359,7 @@ def test_a_kill_between_two_renames_is_refused_by_the_next_command(here, capsys,
     if not is_recorded:
         for name in ("from.json.sums", "mine.plan.sums", "mine.sums"):
             os.remove(name)
-    refused = 0
+    rejected = 0
     before = {name: (here / name).read_bytes() for name in os.listdir(here)}
     for nth in range(1, 6):
         for name in set(os.listdir(here)) - set(before):
@@ -374,13 +374,13 @@ def test_a_kill_between_two_renames_is_refused_by_the_next_command(here, capsys,
             break
         assert status == -signal.SIGKILL
         if new:
-            refused += 1
-            told = refusal(PLAN, capsys)
-            assert any(name in told for name in new) and "run `pit-tools import` again" in told
+            rejected += 1
+            message = error_of(PLAN, capsys)
+            assert any(name in message for name in new) and "run `pit-tools import` again" in message
         else:
             assert main(PLAN) == 0
         assert main(IMPORT) == 0 and main(PLAN) == 0
-    assert refused >= 2 and nth == 5
+    assert rejected >= 2 and nth == 5
 
 
 SCRIPT = """
@@ -413,17 +413,17 @@ def test_two_commands_at_once_leave_the_files_of_one(here, capsys):
 def test_two_compiles_of_one_base_are_not_at_once(here, capsys):
     with open(".mine.lock", "w") as file:
         fcntl.flock(file, fcntl.LOCK_EX)
-        assert "mine: another command writes this instance" in refusal(COMPILE, capsys)
+        assert "mine: another command writes this instance" in error_of(COMPILE, capsys)
     assert main(COMPILE) == 0 and not os.path.exists(".mine.lock")
 
 
 @pytest.mark.parametrize("number", [errno.ENOLCK, errno.EOPNOTSUPP, errno.ENOSYS])
 def test_a_file_system_without_locks_is_written_all_the_same(here, monkeypatch, number):
-    def refusing(*_words):
+    def failing(*_words):
         raise OSError(number, os.strerror(number))
 
     os.remove("mine.blocks")
-    monkeypatch.setattr(fcntl, "flock", refusing)
+    monkeypatch.setattr(fcntl, "flock", failing)
     assert main(COMPILE) == 0
     assert os.path.exists("mine.blocks") and not os.path.exists(".mine.lock")
 
@@ -433,7 +433,7 @@ def test_a_lock_that_never_goes_is_reported(here, monkeypatch, capsys):
     descriptor = os.open(".", os.O_RDONLY)
     fcntl.flock(descriptor, fcntl.LOCK_EX)
     before = sorted(os.listdir("."))
-    assert "another command has been putting files there" in refusal(PLAN, capsys)
+    assert "another command has been putting files there" in error_of(PLAN, capsys)
     os.close(descriptor)
     assert sorted(os.listdir(".")) == before and main(PLAN) == 0
 
@@ -446,13 +446,13 @@ def test_an_input_that_changes_meanwhile_is_reported(here, monkeypatch, capsys):
         return real(*words)
 
     monkeypatch.setattr(records.Reading, "inputs", later)
-    assert "export.csv: it was changed while this command ran" in refusal(IMPORT, capsys)
+    assert "export.csv: it was changed while this command ran" in error_of(IMPORT, capsys)
 
 
 # Disks that fail
 
 
-def refusing_from(monkeypatch, name, nth, number=errno.EIO, last=10 ** 6):
+def failing_from(monkeypatch, name, nth, number=errno.EIO, last=10 ** 6):
     """The calls of a function of os fail from the Nth on."""
     real, calls = getattr(os, name), []
 
@@ -470,10 +470,10 @@ def test_without_links_the_old_files_come_back(here, monkeypatch, capsys, nth):
     before = {name: (here / name).read_bytes() for name in os.listdir(here)}
     change(here / "export.csv", ",0.5,", ",0.75,")
     before["export.csv"] = (here / "export.csv").read_bytes()
-    refusing_from(monkeypatch, "link", 1, errno.EPERM)
-    refusing_from(monkeypatch, "replace", nth, last=nth)
-    told = refusal(IMPORT, capsys)
-    assert "Input/output error" in told
+    failing_from(monkeypatch, "link", 1, errno.EPERM)
+    failing_from(monkeypatch, "replace", nth, last=nth)
+    message = error_of(IMPORT, capsys)
+    assert "Input/output error" in message
     assert {name: (here / name).read_bytes() for name in os.listdir(here)} == before
     assert main(IMPORT) == 0 and main(PLAN) == 0
 
@@ -488,16 +488,16 @@ def test_a_disk_that_fails_from_a_call_on_has_its_mixture_reported(here, monkeyp
         (here / "export.csv").write_text(text.replace(old, new))
     with monkeypatch.context() as patched:
         if not has_links:
-            refusing_from(patched, "link", 1, errno.EOPNOTSUPP)
-        refusing_from(patched, "replace", nth)
-        told = refusal(IMPORT, capsys)
-    assert "the system lets nothing be put back" in told
+            failing_from(patched, "link", 1, errno.EOPNOTSUPP)
+        failing_from(patched, "replace", nth)
+        message = error_of(IMPORT, capsys)
+    assert "the former files cannot be restored" in message
     for name in [*ZONES, "from.json", "from.json.sums"]:
         content = (here / name).read_bytes() if os.path.exists(name) else None
         kept = [left for left in os.listdir(here) if left.startswith(f"{name}.before-")]
         if content == before[name]:
-            assert f"{name} is" not in told and not kept
+            assert f"{name} is" not in message and not kept
         else:
-            assert f"{name} is {'gone' if content is None else 'new'}, and was {kept[0]}" in told
+            assert f"{name} is {'gone' if content is None else 'new'}, and was {kept[0]}" in message
             assert (here / kept[0]).read_bytes() == before[name]
     assert main(IMPORT) == 0 and main(PLAN) == 0

@@ -114,7 +114,7 @@ def looked_at(text: str) -> list[str]:
     """Returns the lines after LOOK AT."""
     behind = text.partition("LOOK AT\n")[2].split("\n\n")[0]
     return [line
-            for line in behind.splitlines() if line.startswith("- ") and "nothing odd" not in line]
+            for line in behind.splitlines() if line.startswith("- ") and "nothing unusual" not in line]
 
 
 def doubts_of(right: Right, folder, capsys) -> list[str]:
@@ -128,13 +128,13 @@ def doubts_of(right: Right, folder, capsys) -> list[str]:
     assert main(["import", "export.csv", *words, "--grade", right.grade]) == 0
     imported = capsys.readouterr().out
     files = sorted(str(path) for path in folder.glob("from-*.csv"))
-    asked = ["plan", "from.json", "--out", "mine.plan", *right.price, "--mill", right.mill,
-             "--dump", right.dump, *right.more, "--periods", right.periods, "--rate", "8 %",
-             *(word for slope in right.slopes for word in ("--slope", slope))]
-    assert main(asked) == 0
+    requested = ["plan", "from.json", "--out", "mine.plan", *right.price, "--mill", right.mill,
+                 "--dump", right.dump, *right.more, "--periods", right.periods, "--rate", "8 %",
+                 *(word for slope in right.slopes for word in ("--slope", slope))]
+    assert main(requested) == 0
     files = capsys.readouterr().out.split("--out mine ")[1].split()
     limits = limits_for("mine.plan", files, int(right.periods.split()[0]), right)
-    assert main([*asked, *(word for limit in limits for word in ("--limit", limit))]) == 0
+    assert main([*requested, *(word for limit in limits for word in ("--limit", limit))]) == 0
     planned = capsys.readouterr().out
     mines.quickly_compiled(folder, (folder / "mine.plan").read_text(),
                            [(folder / path).read_text() for path in files])

@@ -7,7 +7,7 @@ import tempfile
 import numpy as np
 import pandas as pd
 import pytest
-from hypothesis import HealthCheck, given, settings
+from hypothesis import HealthCheck, example, given, settings
 from hypothesis import strategies as st
 from hypothesis.extra import numpy as arrays
 from scipy import sparse
@@ -150,7 +150,7 @@ def test_what_a_reader_takes_it_can_write(text, place, cell):
             mine = read_instance(base)
         except UserError as error:
             assert ("\n" not in str(error) and f"mine.{text}" in str(error)
-                    or "not of as many blocks" in str(error))
+                    or "differ in their numbers of blocks" in str(error))
             return
         write_instance(mine, os.path.join(folder, "copy"))
         assert same(mine, read_instance(os.path.join(folder, "copy")))
@@ -216,7 +216,7 @@ def test_a_schedule_is_read_back(lines, is_pcpsp):
 @given(st.sampled_from(files.TEXTS), st.integers(0, 10**6),
        st.sampled_from(["", "0", "-1", "7", "0.5", "300", "1e3", "1e15", "nan", "inf", "x", ".",
                         "4294967296", "5.0000001", "1 2", ":", "%", "\n", '"', "EOF"]))
-def test_a_changed_published_file_is_taken_or_refused_in_a_line(text, place, cell):
+def test_a_changed_published_file_is_taken_or_rejected_in_a_line(text, place, cell):
     """What is converted is an instance that the reader accepts."""
     with tempfile.TemporaryDirectory() as folder:
         base = changed(folder, text, place, cell)
@@ -235,7 +235,7 @@ ODD = st.sampled_from(["", "0", "-1", "7", "0.5", "1e3", "1e999999999", "9" * 50
 
 @SOME
 @given(st.lists(st.booleans(), max_size=40), st.integers(0, 60), ODD)
-def test_a_pit_is_read_back_and_a_changed_line_is_taken_or_refused(in_pit, at, cell):
+def test_a_pit_is_read_back_and_a_changed_line_is_taken_or_rejected(in_pit, at, cell):
     with tempfile.TemporaryDirectory() as folder:
         path = os.path.join(folder, "pit")
         write_pit(np.array(in_pit, bool), path)
@@ -251,8 +251,9 @@ def test_a_pit_is_read_back_and_a_changed_line_is_taken_or_refused(in_pit, at, c
 
 
 @SOME
+@example(0, '"')
 @given(st.integers(0, 200), ODD)
-def test_a_plan_with_a_changed_cell_is_refused_or_written_as_it_is_read(at, cell):
+def test_a_plan_with_a_changed_cell_is_rejected_or_written_as_it_is_read(at, cell):
     cells = "\n".join(mines.SIX).replace("\n", ",\n,").split(",")
     cells[at % len(cells)] = cell
     text = ",".join(cells).replace(",\n,", "\n")
@@ -267,7 +268,7 @@ def test_a_plan_with_a_changed_cell_is_refused_or_written_as_it_is_read(at, cell
 @SOME
 @given(st.lists(st.tuples(*(st.integers(-10**9, 10**9) for _ in "xyz"), st.integers(0, 10**9),
                           st.integers(0, 10**12)), max_size=8), st.integers(0, 60), ODD)
-def test_a_zone_file_is_read_back_and_a_changed_cell_is_taken_or_refused(rows, at, cell):
+def test_a_zone_file_is_read_back_and_a_changed_cell_is_taken_or_rejected(rows, at, cell):
     with tempfile.TemporaryDirectory() as folder:
         path = os.path.join(folder, "zone.csv")
         table = pd.DataFrame(rows, columns=["x", "y", "z", "tonnes", "grade"], dtype=np.int64)

@@ -15,7 +15,7 @@ from pit_tools.errors import UserError
 from pit_tools.instances.arrays import Blocks, Limit, Problem, Uses
 from pit_tools.instances.files import read_instance
 from pit_tools.schedules import programs
-from pit_tools.schedules.ended import Beside, within
+from pit_tools.schedules.ended import Background, within
 from pit_tools.schedules.files import Schedule, check
 from pit_tools.schedules.programs import program_of, solve
 from pit_tools.schedules.search import SHELLS, STEP, Search, from_shells, shells
@@ -116,7 +116,7 @@ def computing(*_):
     return [sum(range(10**6)) for _ in itertools.count()]
 
 
-def refusing():
+def failing():
     raise UserError("no")
 
 
@@ -130,7 +130,7 @@ def printing():
 
 
 @pytest.mark.parametrize("kind, hang", [("cpit", computing), ("pcpsp", sleeping)])
-def test_a_solver_that_never_ends_is_ended_and_a_start_is_left(tmp_path, monkeypatch, capsys, kind,
+def test_a_solver_that_never_ends_is_ended_and_a_start_is_kept(tmp_path, monkeypatch, capsys, kind,
                                                                hang):
     base = mines.six_blocks(tmp_path, ("limit,fleet,0,I,0,120000\n", ""))
     files = [f"{base}.{kind}", base + ".prec"]
@@ -151,12 +151,12 @@ def test_a_solver_that_never_ends_is_ended_and_a_start_is_left(tmp_path, monkeyp
 
 def test_what_a_step_in_a_process_raises_is_raised():
     with pytest.raises(UserError, match="no"):
-        within(refusing, 30)
-    with pytest.raises(UserError, match="ended without an answer"):
+        within(failing, 30)
+    with pytest.raises(UserError, match="ended without a result"):
         within(ending, 30)
     assert within(printing, 60).sum() == 499999500000
     assert within(sleeping, 0.1) is None
-    beside = Beside(printing)
+    beside = Background(printing)
     assert select.select([beside.child.stdout], [], [], 60)[0]
     assert beside.result(0.0).sum() == 499999500000
 

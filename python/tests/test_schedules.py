@@ -42,9 +42,9 @@ def test_the_best_schedules_that_other_solvers_found(tmp_path, make, kind, relax
     problem = getattr(mine, kind)
     for program in (program_of(problem, mine.precedence, relaxed),
                     by_period(program_of(problem, mine.precedence, relaxed))):
-        answer = solve(program, seconds=60)
-        assert answer.status == "best" and answer.value == pytest.approx(value, abs=0.001)
-        schedule = schedule_of(answer.values, problem, program.names)
+        result = solve(program, seconds=60)
+        assert result.status == "best" and result.value == pytest.approx(value, abs=0.001)
+        schedule = schedule_of(result.values, problem, program.names)
         found = check(schedule, problem, mine.precedence, relaxed)
         assert found.holds and found.worth == pytest.approx(value, abs=0.001)
 
@@ -56,9 +56,9 @@ def test_a_relaxation_is_no_schedule(tmp_path, capsys):
     assert main(["solve", *files, "--relaxed", "--out", out]) == 0
     capsys.readouterr()
     assert main(["check-schedule", *files, out]) == 1
-    told = capsys.readouterr().out
-    assert "474119.63" in told and re.search(r"broken: block \d is split: 0\.\d+ of it in period 0",
-                                             told) and told.count("is split") >= 6
+    message = capsys.readouterr().out
+    assert "474119.63" in message and re.search(r"broken: block \d is split: 0\.\d+ of it in period 0",
+                                                message) and message.count("is split") >= 6
     assert main(["check-schedule", *files, out, "--relaxed"]) == 0
 
 
@@ -116,10 +116,10 @@ def test_programs_and_checks_against_all_schedules(kind, seed):
             assert check(schedule, problem, arcs).holds == holds
         if holds:
             best = max(best, schedule.worth(problem))
-    answer = solve(program_of(problem, arcs, whole_blocks=True), seconds=60)
-    assert (answer.status == "none") == (best == -np.inf)
-    if answer.values is not None:
-        assert answer.value == pytest.approx(best)
+    result = solve(program_of(problem, arcs, whole_blocks=True), seconds=60)
+    assert (result.status == "none") == (best == -np.inf)
+    if result.values is not None:
+        assert result.value == pytest.approx(best)
         assert solve(program_of(problem, arcs, relaxed=True), seconds=60).value >= best - 1e-6
 
 
@@ -182,17 +182,17 @@ WRONG = [
     ("3 0 2;4 0 2;5 0 2;0 0 2", ["resource 1, period 0: 10650.000 t of I 0 8100"])]
 
 # Lines that state no schedule, the second of a file, and how they are rejected.
-REFUSED = [("9 0 0", "no block below 6"), ("-1 0 0", "no block below 6"),
-           ("0.5 0 0", "no block below 6"), ("0 3 0", "no period below 3"),
-           ("0 -1 0", "no period below 3"), ("0 0 3", "no destination below 3"),
-           ("0 0 0.5", "no destination below 3"),
-           ("0 0", "no block, period, destination and share"), ("0", "no block, period"),
-           ("0 0 0 x", "no block, period"), ("0 0 0 1 1", "no block, period"),
-           ("0,0,0", "no block, period"), ("0 0 0 nan", "no block, period"),
-           ("0 0 0 inf", "no block, period"), ("0 0 0 -1e400", "no block, period")]
+REJECTED = [("9 0 0", "no block below 6"), ("-1 0 0", "no block below 6"),
+            ("0.5 0 0", "no block below 6"), ("0 3 0", "no period below 3"),
+            ("0 -1 0", "no period below 3"), ("0 0 3", "no destination below 3"),
+            ("0 0 0.5", "no destination below 3"),
+            ("0 0", "it is not a block, period, destination and share"), ("0", "it is not a block, period"),
+            ("0 0 0 x", "it is not a block, period"), ("0 0 0 1 1", "it is not a block, period"),
+            ("0,0,0", "it is not a block, period"), ("0 0 0 nan", "it is not a block, period"),
+            ("0 0 0 inf", "it is not a block, period"), ("0 0 0 -1e400", "it is not a block, period")]
 
 
-def told_of(folder, lines):
+def text_of(folder, lines):
     """Returns what the check of a schedule's lines finds violated."""
     mine = read_instance(one_block_of_mill(folder))
     (folder / "schedule").write_text(lines.replace(";", "\n") + "\n", newline="")
@@ -201,22 +201,22 @@ def told_of(folder, lines):
 
 @pytest.mark.parametrize("lines", RIGHT)
 def test_a_right_schedule_holds(tmp_path, lines):
-    assert told_of(tmp_path, lines).broken == []
+    assert text_of(tmp_path, lines).broken == []
 
 
-@pytest.mark.parametrize("lines, told", WRONG)
-def test_what_a_schedule_breaks(tmp_path, lines, told):
-    found = told_of(tmp_path, lines)
-    assert found.broken[:len(told)] == told and not found.holds
+@pytest.mark.parametrize("lines, message", WRONG)
+def test_what_a_schedule_breaks(tmp_path, lines, message):
+    found = text_of(tmp_path, lines)
+    assert found.broken[:len(message)] == message and not found.holds
 
 
-@pytest.mark.parametrize("line, told", REFUSED)
-def test_a_line_that_is_no_schedule_is_named(tmp_path, line, told):
-    with pytest.raises(UserError, match=f"line 2: {told}"):
-        told_of(tmp_path, f"3 0 2;{line}")
+@pytest.mark.parametrize("line, message", REJECTED)
+def test_a_line_that_is_no_schedule_is_named(tmp_path, line, message):
+    with pytest.raises(UserError, match=f"line 2: {message}"):
+        text_of(tmp_path, f"3 0 2;{line}")
 
 
-def test_lines_below_zero_make_no_room_for_others(tmp_path, capsys):
+def test_lines_below_zero_make_no_capacity_for_others(tmp_path, capsys):
     """So many lines just below 0 that, counted one by one, none would be seen."""
     base = one_block_of_mill(tmp_path)
     (tmp_path / "schedule").write_text(BEST.replace("2 2 0", "2 2 0 1.09").replace(";", "\n")
@@ -263,7 +263,7 @@ GLPSOL = """   No. Column name       Activity     Lower bound   Upper bound
 
 
 @pytest.mark.parametrize("text", [CBC, GLPSOL])
-def test_what_solvers_answer_is_read(tmp_path, text):
+def test_results_of_solvers_are_read(tmp_path, text):
     mine = read_instance(two_blocks_of_mill(tmp_path))
     (tmp_path / "answer").write_text(text)
     schedule = schedule_of_variables(read_variables(str(tmp_path / "answer")), mine.cpit)
@@ -318,7 +318,7 @@ def test_the_text_is_the_program(tmp_path, kind, options):
     names = program.names.list()
     assert objective == pytest.approx({name: value for name, value in zip(names, program.objective)
                                        if value}, abs=1e-6)
-    assert whole == {name for name, is_whole in zip(names, program.whole) if is_whole}
+    assert whole == {name for name, is_complete in zip(names, program.whole) if is_complete}
     wanted = []
     for row, low, high in zip(program.rows.toarray(), program.lower, program.upper):
         part = {names[at]: row[at] for at in np.flatnonzero(row)}
@@ -340,15 +340,15 @@ def test_glpsol_takes_the_text(tmp_path, make, kind, value):
     done = subprocess.run(["glpsol", "--lp", str(tmp_path / "lp"), "--output",
                            str(tmp_path / "answer")], capture_output=True, text=True)
     assert done.returncode == 0 and "OPTIMAL" in done.stdout, done.stdout
-    answer = re.search(r"Objective: +value = (\S+)", (tmp_path / "answer").read_text())
-    assert float(answer[1]) == pytest.approx(value, abs=0.01)
+    result = re.search(r"Objective: +value = (\S+)", (tmp_path / "answer").read_text())
+    assert float(result[1]) == pytest.approx(value, abs=0.01)
 
 
 @pytest.mark.parametrize("word", ["--relaxed", "--whole", "--by-period"])
 def test_a_flow_has_no_periods_and_destinations(tmp_path, capsys, word):
     place = str(tmp_path / "flow")
     assert main(["lp", "--dimacs", word, "a.upit", "a.prec", "--out", place]) == 2
-    assert "give it without --relaxed" in capsys.readouterr().err and not Path(place).exists()
+    assert "omit --relaxed" in capsys.readouterr().err and not Path(place).exists()
 
 
 def test_the_flow_in_dimacs(tmp_path):
@@ -368,9 +368,9 @@ def test_the_flow_in_dimacs(tmp_path):
 def test_bounds_of_the_six_blocks(tmp_path, capsys):
     base = one_block_of_mill(tmp_path)
     assert main(["bounds", base]) == 0
-    told = [line.rsplit(maxsplit=1) for line in capsys.readouterr().out.splitlines()]
-    assert told == [["all values above 0", "617565.00"], ["the ultimate pit", "606965.00"],
-                    ["CPIT, relaxed", "385188.45"], ["PCPSP, relaxed", "474119.63"]]
+    message = [line.rsplit(maxsplit=1) for line in capsys.readouterr().out.splitlines()]
+    assert message == [["all values above 0", "617565.00"], ["the ultimate pit", "606965.00"],
+                       ["CPIT, relaxed", "385188.45"], ["PCPSP, relaxed", "474119.63"]]
 
 
 def test_a_schedule_may_have_what_an_instance_has(tmp_path, capsys):
@@ -379,16 +379,16 @@ def test_a_schedule_may_have_what_an_instance_has(tmp_path, capsys):
     Path(files[2]).write_bytes("\ufeff% a schedule\r\n3 0\r\n\r\n \t% the next one\n4\t1\n".encode())
     assert main(["check-schedule", *files]) == 0
     assert capsys.readouterr().out.startswith("2 blocks, ")
-    for line, told in (("6 0", "line 3: no block below 6: `6 0`"), ("-1 0", "line 3: no block"),
-                       ("0 3", "line 3: no period below 3"), ("1e4294967296 0", "line 3: no block"),
-                       ("1\0 0", "line 3: no block"), ("x 0", "line 3: no block")):
+    for line, message in (("6 0", "line 3: no block below 6: `6 0`"), ("-1 0", "line 3: no block"),
+                          ("0 3", "line 3: no period below 3"), ("1e4294967296 0", "line 3: it is not a block"),
+                          ("1\0 0", "line 3: it is not a block"), ("x 0", "line 3: it is not a block")):
         Path(files[2]).write_text(f"% a\n3 0\n{line}\n")
         assert main(["check-schedule", *files]) == 2
-        assert told in capsys.readouterr().err
+        assert message in capsys.readouterr().err
     problem, arcs = read_problem(files[0]), read_precedence(files[1])
     for schedule in (Schedule.of([3, 6], [0, 0]), Schedule.of([3, -1], [0, 0]),
                      Schedule.of([3, 2], [0, 3]), Schedule.of([3, 2], [0, 0], [0, 1])):
         with pytest.raises(UserError, match="line 2 of the schedule: no (block|period|destin)"):
             check(schedule, problem, arcs)
-    with pytest.raises(UserError, match="the arcs are of 5 blocks"):
+    with pytest.raises(UserError, match="the arcs have 5 blocks"):
         check(Schedule.of([3], [0]), problem, arcs[:5, :5])

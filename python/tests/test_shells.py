@@ -158,7 +158,7 @@ def mine_of_a_box(tmp_path, monkeypatch):
 def test_files_that_are_read_back_have_the_pits(mine, capsys, ending, read, names):
     words = [*SHELL, "early.pit=first", "last one.pit", "--out", f"pits.{ending}"]
     assert main(words) == 0
-    told = capsys.readouterr().out
+    message = capsys.readouterr().out
     found = read(f"pits.{ending}")
     assert list(found) == names
     for corners, seed in zip(found.values(), (1, 2)):
@@ -168,7 +168,7 @@ def test_files_that_are_read_back_have_the_pits(mine, capsys, ending, read, name
         assert corners.min(axis=(0, 1)) == pytest.approx(ends[0], abs=1e-6)
         assert corners.max(axis=(0, 1)) == pytest.approx(ends[1], abs=1e-6)
         volume = f"{in_pit.sum() * 6250:,.1f} m3"
-        assert f": {in_pit.sum()} blocks, {volume}, {len(corners):,} triangles; " in told
+        assert f": {in_pit.sum()} blocks, {volume}, {len(corners):,} triangles; " in message
     with open(f"pits.{ending}", "rb") as file:
         before = file.read()
     # The same arguments make the same file again in its place, but never replace another kind of
@@ -187,19 +187,19 @@ def test_layers_have_names_that_differ(mine):
     assert list(read_dxf("pits.dxf")) == ["a_b", "A_b-2", "n" * 31]
 
 
-@pytest.mark.parametrize("words, told", [
-    (["early.pit", "--out", "pit.stl"], "`pit.stl` ends with none of .dxf, .vtk, .obj"),
+@pytest.mark.parametrize("words, message", [
+    (["early.pit", "--out", "pit.stl"], "`pit.stl` must end with one of .dxf, .vtk, .obj"),
     (["none.pit", "--out", "pit.obj"], "none: the pit has no block"),
     (["gone.pit", "--out", "pit.obj"], "gone.pit: No such file"),
-    (["early.pit", "--out", "early.pit"], "ends with none of"),
+    (["early.pit", "--out", "early.pit"], "must end with one of"),
     (["early.pit", "--turned", "mine.plan", "--out", "pit.obj"],
      "not what `pit-tools import` writes"),
 ])
-def test_what_is_wrong_is_reported_in_a_line(mine, tmp_path, capsys, words, told):
+def test_what_is_wrong_is_reported_in_a_line(mine, tmp_path, capsys, words, message):
     (tmp_path / "none.pit").write_text("")
     assert main([*SHELL, *words]) == 2
     error = capsys.readouterr().err
-    assert told in error and error.count("\n") == 1 and not (tmp_path / "pit.obj").exists()
+    assert message in error and error.count("\n") == 1 and not (tmp_path / "pit.obj").exists()
 
 
 @pytest.mark.parametrize("module, ending", [("ezdxf.addons.r12writer", "dxf"), ("meshio", "vtk")])
@@ -236,9 +236,9 @@ def test_a_turned_export_has_its_pit_at_its_own_coordinates(tmp_path, monkeypatc
     (tmp_path / "a.pit").write_text("0\n1\n")
     capsys.readouterr()
     assert main([*SHELL, "a.pit", "--out", "a.obj"]) == 0
-    told = capsys.readouterr().out
-    assert "turned back about 1000, 2000: the model's +x at bearing 60" in told
-    assert f"a: 2 blocks, 244,140.6 {unit}3, " in told
+    message = capsys.readouterr().out
+    assert "turned back about 1000, 2000: the model's +x at bearing 60" in message
+    assert f"a: 2 blocks, 244,140.6 {unit}3, " in message
     corners = read_obj("a.obj")["a"]
     for x, y in ((-0.5, -0.5), (1.5, -0.5), (1.5, 0.5), (-0.5, 0.5)):
         place = 62.5 * complex(x, y) * np.exp(1j * np.radians(30))

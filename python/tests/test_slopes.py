@@ -17,7 +17,7 @@ from pit_tools.plans.cones import Places
 from pit_tools.plans.contacts import Contacts, contacts_of
 from pit_tools.plans.file import Grid, Slope, Zone
 from pit_tools.plans.slopes import judge, slope_of
-from pit_tools.plans.walls import asked_straight, measured, straight_walls
+from pit_tools.plans.walls import requested_straight, measured, straight_walls
 
 BEARINGS = [(0, 1), (1, 1), (1, 0), (1, -1), (0, -1), (-1, -1), (-1, 0), (-1, 1)]
 
@@ -57,10 +57,10 @@ def measured_apart(size, sides, K: int, benches: int) -> float:
     for degrees in range(360):
         east, north = math.sin(math.radians(degrees)), math.cos(math.radians(degrees))
         along = [Fraction(q, p) for p, q in sides]
-        asked = 1 / math.hypot(east * along[0 if east > 0 else 1],
-                               north * along[2 if north > 0 else 3])
+        requested = 1 / math.hypot(east * along[0 if east > 0 else 1],
+                                   north * along[2 if north > 0 else 3])
         given = rise * size[1] / (out @ (east, north)).max()
-        worst = max(worst, math.degrees(math.atan(given) - math.atan(asked)))
+        worst = max(worst, math.degrees(math.atan(given) - math.atan(requested)))
     return worst
 
 
@@ -69,11 +69,11 @@ def test_straight_walls_are_as_steep_as_those_of_closures(size, sides, K):
     grid = Grid((Decimal(0),) * 3, (Decimal(size[0]), Decimal(size[0]), Decimal(size[1])))
     zone = Zone(tuple(Slope(*pair) for pair in sides), K)
     dug = closure_of(size, sides, K, 12)
-    told = straight_walls(grid, zone, K, 12)
+    message = straight_walls(grid, zone, K, 12)
     for high in range(1, 13):
         for number, (x, y) in enumerate(BEARINGS):
             out = max((x * px + y * py) * size[0] / math.hypot(x, y) for px, py in dug[high])
-            assert told[high - 1][45 * number] == pytest.approx(
+            assert message[high - 1][45 * number] == pytest.approx(
                 math.degrees(math.atan2(high * size[1], out)), abs=1e-6)
 
 
@@ -88,7 +88,7 @@ def test_the_pit_of_one_block_is_as_flat_as_printed(size, sides, K):
                        for steps in range(40) if (steps * x, steps * y) in dug[high])
         # a pit of twelve benches is not flatter
         assert walls.given[K][45 * number] <= flattest + 1e-6
-        assert walls.given[K][45 * number] >= walls.asked[45 * number] - 1e-6
+        assert walls.given[K][45 * number] >= walls.requested[45 * number] - 1e-6
 
 
 def test_a_straight_wall_between_different_sides_is_computed_by_a_separate_formula():
@@ -97,7 +97,7 @@ def test_a_straight_wall_between_different_sides_is_computed_by_a_separate_formu
     # North-east: 1 / sqrt(1/2 / tan^2 60 + 1/2 / tan^2 35), where the ellipse of a single block's
     # pit asks 52.8.
     expected = math.degrees(math.atan(1 / math.sqrt(0.5 / slopes[0] ** 2 + 0.5 / slopes[2] ** 2)))
-    assert asked_straight(zone)[45] == pytest.approx(expected, abs=0.02)
+    assert requested_straight(zone)[45] == pytest.approx(expected, abs=0.02)
     assert expected == pytest.approx(42.55, abs=0.01)
 
 
@@ -120,10 +120,10 @@ def test_the_K_to_take_is_the_height_of_the_mine(size, degrees, K, found):
         assert measured_apart(size, sides, benches, benches) == pytest.approx(with_all, abs=0.05)
         judged = judge(square(*size), [Zone(slopes, K)], ["a"], benches)
         assert judged.K == (benches,)
-        told, = judged.look_at
+        message, = judged.look_at
         high, over, better = re.fullmatch(rf"K is too small: zone a: K = {K} makes a pit of (\d+) "
-                                          rf"benches ([\d.]+) degrees too steep, and K = {benches} "
-                                          r"([\d.]+)", told).groups()
+                                          rf"benches ([\d.]+) degrees too steep, but K = {benches} "
+                                          r"([\d.]+)", message).groups()
         assert measured_apart(size, sides, K, int(high)) == pytest.approx(float(over), abs=0.051)
         assert measured_apart(size, sides, benches,
                               int(high)) == pytest.approx(float(better), abs=0.051)
@@ -143,8 +143,8 @@ def test_walls_that_no_K_makes_better_are_a_note():
     over = [measured_apart((20, 10), sides, 5, benches) for sides in ([(1, 1)] * 4, [(1, 2)] * 4)
             for benches in (4, 5)]
     assert float(found[1]) == pytest.approx(max(over), abs=0.051)
-    for asked, less in ((45.0, int(found[2])), (math.degrees(math.atan(0.5)), int(found[3]))):
-        flat = slope_of(asked - less)
+    for requested, less in ((45.0, int(found[2])), (math.degrees(math.atan(0.5)), int(found[3]))):
+        flat = slope_of(requested - less)
         still = [measured_apart((20, 10), [(flat.rise, flat.run)] * 4, benches, benches) - less
                  for benches in (4, 5)]
         assert max(still) <= 2.05
@@ -158,8 +158,7 @@ def test_a_zone_below_a_steeper_one_ends_at_the_contact():
     through = judge(square(20, 10), [Zone(flat.slopes, 8), steep], ["flat", "steep"], 20,
                     contacts=Contacts({0: 2}, {(0, 1): 12}))
     assert through.K == (2, 20)
-    assert through.look_at == ("zone flat lies below zone steep, which is steeper, and 12 cones of "
-                               "it go on through that: walls are too flat there. Import with "
+    assert through.look_at == ("zone flat is below zone steep, which is steeper, and 12 cones of it continue through that: walls are too flat there. Import with "
                                "--below flat:steep",)
 
 
@@ -174,20 +173,20 @@ def test_contacts_with_steeper_rock_are_counted():
             ([0, 1, 2, 2, 2, 2], [Zone(flat, 2), Zone(flat, 1), Zone(steep, 6)], {0: 2, 1: 1}, {})):
         blocks = Blocks(x, y, z, np.ones(150), np.ones(150), np.array(of_bench, dtype=np.int32)[z])
         found = contacts_of(blocks, zones, (20000, 20000, 10000), Places(blocks))
-        assert (found.begins, found.below) == (begins, below) and (not below) == (not found.beside)
+        assert (found.begins, found.below) == (begins, below) and (not below) == (not found.adjacent)
     # West of x = 2 flat, east of it steep, K = 2: the cones go one block a bench, so those of the
     # last two columns reach the steep rock.
     blocks = Blocks(x, y, z, np.ones(150), np.ones(150), (x > 2).astype(np.int32))
     found = contacts_of(blocks, [Zone(flat, 2), Zone(steep, 2)], (20000, 20000, 10000),
                         Places(blocks))
-    assert (found.begins, found.below) == ({}, {}) and found.beside == {(0, 1): 5 * 5 + 5 * 4}
+    assert (found.begins, found.below) == ({}, {}) and found.adjacent == {(0, 1): 5 * 5 + 5 * 4}
 
 
 def square(width: int, height: int) -> Grid:
     return Grid((Decimal(0),) * 3, (Decimal(width), Decimal(width), Decimal(height)))
 
 
-def test_plan_slopes_and_survey_say_the_same(tmp_path, capsys, monkeypatch):
+def test_plan_slopes_and_survey_report_the_same(tmp_path, capsys, monkeypatch):
     """For one model below two benches of air: undiluted blocks give the same note for all, and
     a small K the same line to look at."""
     monkeypatch.chdir(tmp_path)
@@ -199,7 +198,7 @@ def test_plan_slopes_and_survey_say_the_same(tmp_path, capsys, monkeypatch):
     words = [arg for name in "xyz" for arg in (f"--{name}", name)]
     assert main(["import", "export.csv", *words, "--tonnes", "t", "--grade", "g", "--zone", "zone",
                  "--out", "from"]) == 0
-    told = {}
+    message = {}
     for name, K in (("right", []), ("small", ["--K", "2"])):
         capsys.readouterr()
         assert main(["plan", "from.json", "--out", f"{name}.plan", "--price", "58 USD/g", "--mill",
@@ -213,13 +212,13 @@ def test_plan_slopes_and_survey_say_the_same(tmp_path, capsys, monkeypatch):
                                name)
         assert main(["survey", f"{name}.plan", name, "from-0.csv", "from-1.csv"]) == 0
         survey = capsys.readouterr().out
-        told[name] = [set(re.findall(pattern, text))
-                      for text, pattern in ((plan, "(?m)^- ((?:K is|blocks are).*)"),
-                                            (slopes, "(?m)^(?:NOTE|LOOK AT): (.*)"),
-                                            (survey, "(?m)^- SLOPES: (.*)"))]
-    for by_plan, by_slopes, by_survey in told.values():
+        message[name] = [set(re.findall(pattern, text))
+                         for text, pattern in ((plan, "(?m)^- ((?:K is|blocks are).*)"),
+                                               (slopes, "(?m)^(?:NOTE|LOOK AT): (.*)"),
+                                               (survey, "(?m)^- SLOPES: (.*)"))]
+    for by_plan, by_slopes, by_survey in message.values():
         assert by_plan == by_slopes == by_survey
-    assert len(told["right"][0]) == 1 and len(told["small"][0]) == 2
+    assert len(message["right"][0]) == 1 and len(message["small"][0]) == 2
 
 
 def test_the_command_prints_all_of_it(tmp_path, capsys):
@@ -231,7 +230,7 @@ def test_the_command_prints_all_of_it(tmp_path, capsys):
     assert "K = 9 45.0 46.7 45.0 46.7 45.0 46.7 45.0 46.7 1.7 233 the plan's K" in rows
     assert "12 benches up 45.0 46.7 45.0 46.7 45.0 46.7 45.0 46.7 1.7" in rows
     assert "K = 1 90.0 90.0 90.0 90.0 90.0 90.0 90.0 90.0 45.0 1" in rows
-    assert ("in a mine of 12 benches take K = 12" in text
+    assert ("in a mine of 12 benches use K = 12" in text
             and "LOOK AT: K is too small: zone 0: K = 9 makes a pit of" in text)
     assert main(["plan", "--walls", str(plan), "--K", "2"]) == 0
     rows = [" ".join(line.split()) for line in capsys.readouterr().out.splitlines()]

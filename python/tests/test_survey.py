@@ -45,10 +45,10 @@ def test_numbers_are_those_of_the_awk_survey(surveyed):
     """tests/data/survey-deposit.txt is what examples/survey.awk of version 0.2.0 printed for
     it."""
     base, zones = surveyed
-    told = survey_text(read_facts(base + ".plan", base, zones))
+    message = survey_text(read_facts(base + ".plan", base, zones))
     with open(os.path.join(DATA, "survey-deposit.txt")) as file:
         wanted = file.read()
-    parts = dict((part.split(maxsplit=1)[0], part.strip()) for part in told.split("\n\n"))
+    parts = dict((part.split(maxsplit=1)[0], part.strip()) for part in message.split("\n\n"))
     for part in wanted.split("\n\n"):
         assert parts[part.split(maxsplit=1)[0]] == part.strip()
     assert set(parts) - {part.split(maxsplit=1)[0] for part in wanted.split("\n\n")} == {
@@ -117,10 +117,10 @@ def test_the_page_begins_with_what_is_passed_on(surveyed):
     assert f"worth {facts.greatest[facts.pit].sum():,.2f} in units of 100 cents" in rows["pit"][2]
     assert (any(line.startswith("pit-tools ") for line in rows["made"])
             and "mill,mill,920,5800000,1650" in rows["plan"])
-    told = dict(line.split("  ")[::-1] for line in rows["inputs"])
+    message = dict(line.split("  ")[::-1] for line in rows["inputs"])
     paths = [base + ".plan", *zones, base + ".blocks", base + ".pcpsp"]
-    assert told == {path: subprocess.run(["sha256sum", path], capture_output=True, text=True,
-                                         check=True).stdout.split()[0] for path in paths} | {
+    assert message == {path: subprocess.run(["sha256sum", path], capture_output=True, text=True,
+                                            check=True).stdout.split()[0] for path in paths} | {
         base + ".prec": f"{os.path.getsize(base + '.prec'):,} bytes"}
 
 
@@ -182,14 +182,14 @@ def test_a_survey_is_written_over_an_older_one(surveyed, tmp_path, capsys):
     assert main(words) == 2 and "of another kind than `survey`" in capsys.readouterr().err
 
 
-@pytest.mark.parametrize("word, told",
-                         [("y=2500", "no block lies at y = 2500 m"),
+@pytest.mark.parametrize("word, message",
+                         [("y=2500", "there is no block at y = 2500 m"),
                           ("q=1", "give an axis and metres"), ("y=", "give an axis and metres"),
                           ("z=nan", "give an axis and metres")])
-def test_sections_that_cannot_be_drawn_are_named(tmp_path, capsys, word, told):
+def test_sections_that_cannot_be_drawn_are_named(tmp_path, capsys, word, message):
     base = mines.six_blocks(tmp_path)
     assert main(["survey", base + ".plan", base, "--section", word]) == 2
-    assert told in capsys.readouterr().err
+    assert message in capsys.readouterr().err
 
 
 def test_a_section_that_is_requested_is_on_the_page(tmp_path):
@@ -212,23 +212,23 @@ def test_the_first_shade_of_grades_is_what_pays_nowhere(surveyed):
     assert grade_legend(facts)[0].get_label() == "0 to 0.309: pays nowhere"
 
 
-@pytest.mark.parametrize("words, told", [
+@pytest.mark.parametrize("words, message", [
     (["gone.plan", "{base}"], "gone.plan: No such file"),
     (["{base}.plan", "{base}/gone"], "cannot open {base}/gone.blocks"),
     (["{base}.plan", "{base}", "{base}-9.csv"], "{base}-9.csv"),
 ])
-def test_what_cannot_be_read_is_reported_in_a_line(tmp_path, capsys, words, told):
+def test_what_cannot_be_read_is_reported_in_a_line(tmp_path, capsys, words, message):
     base = mines.six_blocks(tmp_path)
     assert main(["survey", *(word.format(base=base) for word in words)]) == 2
     error = capsys.readouterr().err
-    assert told.format(base=base) in error and error.count("\n") == 1
+    assert message.format(base=base) in error and error.count("\n") == 1
 
 
-def test_a_zone_file_in_place_of_blocks_is_refused(tmp_path, capsys):
+def test_a_zone_file_in_place_of_blocks_is_rejected(tmp_path, capsys):
     base = mines.six_blocks(tmp_path)
     os.replace(base + ".cpit", base + ".blocks")
     assert main(["survey", base + ".plan", base]) == 2
-    assert "mine.blocks: line 1: 2 fields, and a block line has 7: `NAME: pit`" in capsys.readouterr().err
+    assert "mine.blocks: line 1: 2 fields, but a block line has 7: `NAME: pit`" in capsys.readouterr().err
 
 
 BROWSER = next(filter(None, map(shutil.which, ("chromium", "chromium-browser", "google-chrome"))),
@@ -255,5 +255,5 @@ def test_a_browser_shows_the_page_with_its_pictures(surveyed, tmp_path):
 def test_a_pit_that_would_take_minutes_is_not_sought(tmp_path, monkeypatch):
     base = mines.six_blocks(tmp_path)
     monkeypatch.setattr(survey_facts, "MOST_PLACES_OF_CONES", 1)
-    told = survey_text(read_facts(base + ".plan", base))
-    assert "the ultimate pit was not sought" in told and "blocks of the pit are" not in told
+    message = survey_text(read_facts(base + ".plan", base))
+    assert "the ultimate pit was not computed" in message and "blocks of the pit are" not in message

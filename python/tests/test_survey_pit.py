@@ -19,9 +19,9 @@ from pit_tools.texts.units import Measures
 from test_nested import best_by_hand, worth_by_hand
 
 
-def part(told: str, name: str) -> list[str]:
+def part(message: str, name: str) -> list[str]:
     """Returns the lines of a part of a survey below its headers."""
-    found = re.search(f"(?ms)^{name}.*?(?=^$|\\Z)", told)
+    found = re.search(f"(?ms)^{name}.*?(?=^$|\\Z)", message)
     return found[0].splitlines() if found else []
 
 
@@ -32,14 +32,14 @@ def numbers(line: str) -> list[float]:
 def test_the_six_blocks_worked_out_manually(tmp_path):
     """The pit is all six: above, 0.45 g/t goes to the mill, and the others are waste at 2 a tonne;
     below all three do, at 54 a gram of what is 90 % recovered, less 15 a tonne."""
-    told = survey_text(read_facts(mines.six_blocks(tmp_path) + ".plan", str(tmp_path / "mine")))
+    message = survey_text(read_facts(mines.six_blocks(tmp_path) + ".plan", str(tmp_path / "mine")))
     above, waste = 2650 * (0.45 * 54 - 15), 2 * 2650 * 2
     below = sum(2700 * (grade * 54 - 15) for grade in (1.8, 2.4, 0.7))
     ore, metal = 3 * 2700 + 2650, 2700 * (1.8 + 2.4 + 0.7) / 1000 + 2650 * 0.45 / 1000
-    zone = numbers(part(told, "ZONES OF THE PIT")[1])
+    zone = numbers(part(message, "ZONES OF THE PIT")[1])
     assert zone == pytest.approx([6, ore, 1000 * metal / ore, metal, 0.9 * metal, 5300, 5300 / ore,
                                   above - waste + below], abs=0.05)
-    benches = [numbers(line) for line in part(told, "CASH FLOW BY BENCH")[2:]]
+    benches = [numbers(line) for line in part(message, "CASH FLOW BY BENCH")[2:]]
     assert benches == [
         pytest.approx([10, 2650, 5300, above, waste, above - waste, above - waste]),
         pytest.approx([0, 8100, 0, below, 0, below, above - waste + below])]
@@ -94,10 +94,10 @@ def noted(base, *names, measures=Measures()):
 def test_zones_and_benches_by_pandas(lens):
     """In a currency whose cent has four parts, and percent; two files of one zone are one row."""
     base, blocks = lens
-    told = survey_text(noted(base, "cap", "ore", "ore", measures=Measures("AUD", 4, "%")))
+    message = survey_text(noted(base, "cap", "ore", "ore", measures=Measures("AUD", 4, "%")))
     pit = blocks[blocks["in_pit"]]
     pit = pit.assign(name=np.where(pit["zone"] == 0, "cap", "ore"))
-    lines = {line.split()[0]: numbers(line) for line in part(told, "ZONES OF THE PIT")[1:]}
+    lines = {line.split()[0]: numbers(line) for line in part(message, "ZONES OF THE PIT")[1:]}
     assert list(lines) == ["cap", "ore", "all"]
     for name, rows in [*pit.groupby("name"), ("all", pit)]:
         ore = rows[~rows["waste"]]
@@ -107,7 +107,7 @@ def test_zones_and_benches_by_pandas(lens):
             abs=0.051), name
         assert lines[name][5] == pytest.approx(rows.loc[rows["waste"], "tonnes"].sum(), abs=0.051)
         assert lines[name][-1] == pytest.approx(rows["value"].sum() / 4, abs=0.006)
-    lines = part(told, "CASH FLOW BY BENCH")
+    lines = part(message, "CASH FLOW BY BENCH")
     assert lines[0].endswith("in AUD")
     total, wanted = 0.0, []
     for z, rows in sorted(pit.groupby("z"), reverse=True):
@@ -155,21 +155,20 @@ def test_pictures_show_the_numbers_and_pits_are_sought_once(lens, monkeypatch):
         assert total.lines[0].get_xdata()[-1] * 1e6 == pytest.approx(pit["value"].sum())
 
 
-def test_nested_pits_that_are_omitted_say_why(lens, monkeypatch):
+def test_nested_pits_that_are_omitted_have_a_reason(lens, monkeypatch):
     base, _ = lens
     given = survey_text(read_facts(base + ".plan", base, pit_path=base + ".pit"))
     assert part(given, "NESTED PITS") == [
-        "NESTED PITS are left out: the pit is that of --pit; `pit-tools nested` finds those of the "
-        "plan"]
+        "NESTED PITS are omitted: the pit was given by --pit; `pit-tools nested` finds nested pits of the plan"]
     assert part(given, "ZONES OF THE PIT") and part(given, "CASH FLOW BY BENCH")
     facts = read_facts(base + ".plan", base)
     facts.values[0, 0] += 1
     assert part(survey_text(facts), "NESTED PITS")[0].startswith(
-        "NESTED PITS are left out: 1 values of the instance are not those of this plan")
+        "NESTED PITS are omitted: 1 values of the instance differ from this plan's")
     monkeypatch.setattr(survey_pit, "MOST_PLACES", 1)
     facts = read_facts(base + ".plan", base)
     assert part(survey_text(facts), "NESTED PITS") == [
-        "NESTED PITS are left out: they would take minutes; `pit-tools nested` finds them"]
+        "NESTED PITS are omitted: they would take minutes; `pit-tools nested` finds them"]
     assert [name for name, _, _ in all_of_them(facts)][-2:] == ["zones-of-the-pit", "cash-flow"]
 
 
@@ -177,6 +176,6 @@ def test_without_a_pit_there_are_no_parts_of_it(tmp_path):
     """At a price at which nothing pays, the pit is empty."""
     base = mines.six_blocks(tmp_path, ("6000000", "1"))
     facts = read_facts(base + ".plan", base)
-    told = survey_text(facts)
-    assert not facts.pit.any() and "ZONES OF" not in told and "CASH FLOW" not in told
+    message = survey_text(facts)
+    assert not facts.pit.any() and "ZONES OF" not in message and "CASH FLOW" not in message
     assert [name for name, _, _ in all_of_them(facts)][-1] == "rock"

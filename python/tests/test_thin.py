@@ -36,7 +36,7 @@ def with_thin(folder: Path, **words) -> tuple[str, str]:
     return base, base + ".thin"
 
 
-def told(capsys, *words: str) -> str:
+def printed_by(capsys, *words: str) -> str:
     """Returns what a command prints, which must end with 0."""
     assert main(list(words)) == 0
     return capsys.readouterr().out
@@ -48,8 +48,8 @@ def test_an_instance_is_read_with_a_thin_file_and_needs_no_other(tmp_path, capsy
     Path(base + ".prec").unlink()
     mine = read_instance(base, precedence=thin)
     assert (mine.precedence != fewer_by_hand(whole.precedence)).nnz == 0
-    assert told(capsys, "read", base, "--prec", thin, "--out",
-                str(tmp_path / "copy")) == mine.counts() + "\n"
+    assert printed_by(capsys, "read", base, "--prec", thin, "--out",
+                   str(tmp_path / "copy")) == mine.counts() + "\n"
     assert (tmp_path / "copy.prec").read_bytes() == Path(thin).read_bytes()
     assert (f" arcs {mine.precedence.nnz} " in mine.counts()
             and mine.precedence.nnz < whole.precedence.nnz)
@@ -59,10 +59,10 @@ def test_an_instance_is_read_with_a_thin_file_and_needs_no_other(tmp_path, capsy
 @pytest.mark.parametrize("K", [2, 3, 5])
 def test_a_thin_file_changes_no_pit_and_no_bound(tmp_path, capsys, K):
     base, thin = with_thin(tmp_path, K=K)
-    by_all = told(capsys, "pit", base, "--out", base + ".pit"), told(capsys, "bounds", base)
+    by_all = printed_by(capsys, "pit", base, "--out", base + ".pit"), printed_by(capsys, "bounds", base)
     Path(base + ".prec").unlink()
-    assert (told(capsys, "pit", base, "--prec", thin, "--out", base + ".again"),
-            told(capsys, "bounds", base, "--prec", thin)) == by_all
+    assert (printed_by(capsys, "pit", base, "--prec", thin, "--out", base + ".again"),
+            printed_by(capsys, "bounds", base, "--prec", thin)) == by_all
     assert Path(base + ".again").read_bytes() == Path(base + ".pit").read_bytes() != b""
 
 
@@ -72,12 +72,12 @@ def test_a_thin_file_changes_no_best_schedule_and_no_relaxation(tmp_path, capsys
     base, thin = with_thin(tmp_path)
     worth = []
     for arcs in (base + ".prec", thin):
-        answer = told(capsys, "solve", f"{base}.{kind}", arcs, "--all-arcs", *options, "--out",
-                      base + ".schedule")
-        worth.append(float(re.match(r"best: worth (\S+),", answer)[1]))
+        result = printed_by(capsys, "solve", f"{base}.{kind}", arcs, "--all-arcs", *options, "--out",
+                         base + ".schedule")
+        worth.append(float(re.match(r"best: worth (\S+),", result)[1]))
         # What was found with one file is feasible with the other.
         for other in (base + ".prec", thin):
-            told(capsys, "check-schedule", f"{base}.{kind}", other, base + ".schedule", *options)
+            printed_by(capsys, "check-schedule", f"{base}.{kind}", other, base + ".schedule", *options)
     assert worth[0] == pytest.approx(worth[1], abs=0.02) and worth[0] > 0
 
 
@@ -94,7 +94,7 @@ def test_programs_have_the_arcs_of_a_thin_file(tmp_path, capsys, form):
         assert (rows == arcs) == (file == thin) and rows >= arcs
 
 
-def test_a_schedule_that_mines_too_early_is_broken_by_a_thin_file_too(tmp_path, capsys):
+def test_a_schedule_that_mines_too_early_is_violated_by_a_thin_file_too(tmp_path, capsys):
     base, thin = with_thin(tmp_path)
     mine = read_instance(base)
     block, above = (int(ends[-1]) for ends in mine.precedence.nonzero())
@@ -106,15 +106,15 @@ def test_a_schedule_that_mines_too_early_is_broken_by_a_thin_file_too(tmp_path, 
 def test_a_plan_goes_without_a_precedence_file(tmp_path, capsys):
     base, thin = with_thin(tmp_path)
     assert main(["pit", base, "--plan", base + ".plan", "--prec", thin]) == 2
-    assert (capsys.readouterr().err == "pit-tools pit: --plan finds the arcs, so it goes without "
+    assert (capsys.readouterr().err == "pit-tools pit: --plan finds the arcs, so it excludes "
             "--prec\n")
 
 
 @pytest.mark.parametrize("command", ["read", "pit", "bounds"])
-def test_a_thin_file_that_is_none_is_refused_by_its_name(tmp_path, capsys, command):
+def test_a_thin_file_that_is_none_is_rejected_by_its_name(tmp_path, capsys, command):
     base, thin = with_thin(tmp_path)
-    for text, wanted in (("0 1 1\n1 0\n", "not of as many blocks: "),
-                         ("0 1\n", "other.thin: line 1: 0 predecessors ")):
+    for text, wanted in (("0 1 1\n1 0\n", "differ in their numbers of blocks: "),
+                         ("0 1\n", "other.thin: line 1: a line `id k p1 .. pk` has 0 predecessors")):
         (tmp_path / "other.thin").write_text(text)
         assert main([command, base, "--prec", str(tmp_path / "other.thin")]) == 2
         assert wanted in capsys.readouterr().err
@@ -152,7 +152,7 @@ def all_arcs_of(base: str, plan: str, zones: list[str]) -> sparse.csr_matrix:
 
 
 @pytest.mark.skipif(compiled.compiler() is None, reason="no C++ compiler is here")
-def test_immediate_drops_what_the_rule_says_on_models_of_different_cones(tmp_path):
+def test_immediate_drops_what_the_rule_states_on_models_of_different_cones(tmp_path):
     dropped = 0
     for seed in range(MODELS):
         whole = all_arcs_of(str(tmp_path / "m"), *cones_of(seed))
@@ -184,4 +184,4 @@ def test_the_file_of_the_program_is_read(pitc_thin, tmp_path, capsys, K):
     assert (done.stdout, done.stderr, done.returncode) == (f"rows {whole.shape[0]} arcs {left.nnz} "
                                                            f"of {whole.nnz}\n", "", 0)
     assert (left != fewer_by_hand(whole)).nnz == 0
-    assert told(capsys, "pit", base) == told(capsys, "pit", base, "--prec", base + ".thin")
+    assert printed_by(capsys, "pit", base) == printed_by(capsys, "pit", base, "--prec", base + ".thin")

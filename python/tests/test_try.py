@@ -37,24 +37,24 @@ def ended(top: Path, *words: str, folder: Path | None = None, path: str = SYSTEM
                           capture_output=True, text=True, check=False)
 
 
-def refused_in_a_line(done) -> str:
+def rejected_in_a_line(done) -> str:
     """Returns the one line with which a run was refused, with status 2 and no output."""
     assert (done.returncode, done.stdout, done.stderr.count("\n")) == (2, "", 1), done
     return done.stderr
 
 
 @pytest.mark.parametrize("words", [["planer"], ["planner", "mine"], [""], ["-x"]])
-def test_other_arguments_are_refused(top, words):
-    assert "arguments are none, planner or --help" in refused_in_a_line(ended(top, *words))
+def test_other_arguments_are_rejected(top, words):
+    assert "arguments are none, planner or --help" in rejected_in_a_line(ended(top, *words))
 
 
 def test_without_a_program_and_a_toolchain_nothing_runs(top):
-    assert "there is no rt" in refused_in_a_line(ended(top))
+    assert "there is no rt" in rejected_in_a_line(ended(top))
 
 
-def test_a_tree_without_examples_is_refused(top):
+def test_a_tree_without_examples_is_rejected(top):
     (top / "examples").unlink()
-    assert "run try in a complete clone" in refused_in_a_line(ended(top))
+    assert "run try in a complete clone" in rejected_in_a_line(ended(top))
 
 
 @pytest.fixture(name="other")
@@ -71,10 +71,10 @@ def test_another_program_in_the_path_is_not_run(top, other):
     assert f"{other}/pitc is another program" in done.stderr and "there is no rt" in done.stderr
 
 
-def test_a_built_program_that_does_not_run_is_refused(top, other):
+def test_a_built_program_that_does_not_run_is_rejected(top, other):
     (top / "crates/pitc/out").mkdir(parents=True)
     (other / "pitc").rename(top / "crates/pitc/out/pitc")
-    assert "does not run here: build it anew" in refused_in_a_line(ended(top))
+    assert "does not run here: build it anew" in rejected_in_a_line(ended(top))
 
 
 def test_packages_that_are_missing_are_named(top, tmp_path):
@@ -88,8 +88,8 @@ def test_packages_that_are_missing_are_named(top, tmp_path):
     (top / "python/pit-tools").write_text("#!/bin/sh\nexit 2\n")
     (top / "python/pit-tools").chmod(0o755)
     (tools / "python3").symlink_to("/usr/bin/python3")
-    told = refused_in_a_line(ended(top, "planner", path=str(tools)))
-    assert "apt-get install --yes --no-install-recommends g++ python3-pandas" in told
+    message = rejected_in_a_line(ended(top, "planner", path=str(tools)))
+    assert "apt-get install --yes --no-install-recommends g++ python3-pandas" in message
     assert not list(top.glob("first-mine*"))
 
 
@@ -138,12 +138,12 @@ STATE = '"$PWD $PATH ${LC_ALL-none} ${zones-none} ${begun-none}"'
 BEGIN = f'before={STATE}; . examples/begin.sh; echo "status $?"; [ "$before" = {STATE} ] && echo unchanged'
 
 
-@pytest.mark.parametrize("pitc_status, tool_status, told", [
+@pytest.mark.parametrize("pitc_status, tool_status, message", [
     (None, 0, "no pitc is built here or installed"),
     (0, None, "no pit-tools is here or installed"),
     (0, 2, "needs a python3 with pandas"),
     (1, 0, "the example deposit does not compile")])
-def test_recipes_that_cannot_begin_leave_the_shell_unchanged(tmp_path, pitc_status, tool_status, told):
+def test_recipes_that_cannot_begin_leave_the_shell_unchanged(tmp_path, pitc_status, tool_status, message):
     """`pit-tools --version` ends with 2 if no python3 has its packages."""
     (tmp_path / "examples").symlink_to(os.path.join(TOP, "examples"))
     (tmp_path / "bin").mkdir()
@@ -153,7 +153,7 @@ def test_recipes_that_cannot_begin_leave_the_shell_unchanged(tmp_path, pitc_stat
             (tmp_path / "bin" / name).chmod(0o755)
     done = subprocess.run(["sh", "-c", BEGIN], cwd=tmp_path, env={"PATH": SYSTEM}, capture_output=True, text=True, check=False)
     assert done.stdout == "status 1\nunchanged\n"
-    assert told in done.stderr and done.stderr.count("\n") == 1
+    assert message in done.stderr and done.stderr.count("\n") == 1
     assert not (tmp_path / "work").exists()
 
 

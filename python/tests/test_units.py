@@ -34,7 +34,7 @@ def planned(tmp_path, monkeypatch, capsys):
     return tmp_path
 
 
-def told(capsys, *words: str) -> str:
+def printed_by(capsys, *words: str) -> str:
     assert main(list(words)) == 0
     return capsys.readouterr().out
 
@@ -43,17 +43,17 @@ def test_money_and_grades_are_reported_as_the_planner_wrote_them(planned, capsys
     """2,700 t of 2 % at 90 % hold 48,600 kg that are recovered; a pound is 0.45359237 kg, so
     88,185 hundredths of a cent a kilogram are 428,579.10 dollars; costs 18 dollars a tonne,
     48,600. There are five blocks of waste above, of which each costs 5,400."""
-    pit = told(capsys, "pit", "mine", "--out", "mine.pit")
+    pit = printed_by(capsys, "pit", "mine", "--out", "mine.pit")
     worth = 48600 * 88185 / 10000 - 18 * 2700 - 5 * 5400
     assert pit == f"6 blocks, 16200.000 t, worth {worth:.2f} USD\n"
-    assert told(capsys, "pit", "mine", "--plan", "mine.plan", "--K", "plan") == f"K = plan: {pit}"
-    survey = told(capsys, "survey", "mine.plan", "mine", "from-por.csv")
+    assert printed_by(capsys, "pit", "mine", "--plan", "mine.plan", "--K", "plan") == f"K = plan: {pit}"
+    survey = printed_by(capsys, "survey", "mine.plan", "mine", "from-por.csv")
     assert "2,700.0 t of ore with 2.0000 %," in survey and f"worth {worth:,.2f} USD" in survey
     assert re.search(
         r"(?m)^0 mill +8\.82 +0\.27 +4\.00 +8,818\.50 +costs 18\.00 +0\.2268 %   90 %$", survey)
     assert ("prices and costs are in USD" in survey and "zone por: million t, %, kg" in survey
             and "g/t" not in survey)
-    report = told(capsys, "report", "mine.plan", "mine", "mine.pit")
+    report = printed_by(capsys, "report", "mine.plan", "mine", "mine.pit")
     assert ("value, USD" in report and f"{worth:,.2f}" in report and "2.0000" in report
             and "g/t" not in report)
 
@@ -63,8 +63,8 @@ def test_a_note_that_no_longer_fits_is_reported_and_not_used(planned, capsys):
     (planned / "mine.plan").write_text(plan.replace("rate,0.08", "rate,0.1"))
     assert main(["survey", "mine.plan", "mine", "from-por.csv"]) == 2
     assert "mine.plan: it is not the file that mine.plan.sums names" in capsys.readouterr().err
-    survey = told(capsys, "survey", "mine.plan", "mine", "from-por.csv", "--edited")
-    assert "- FILES: mine.plan.json was written for another plan than mine.plan is now" in survey
+    survey = printed_by(capsys, "survey", "mine.plan", "mine", "from-por.csv", "--edited")
+    assert "- FILES: mine.plan.json was written for another plan than mine.plan now is" in survey
     assert "- FILES: mine.plan: it is not the file that mine.plan.sums names" in survey
     assert "g/t" in survey and "USD" not in survey
     assert main(["pit", "mine", "--edited"]) == 0
@@ -78,7 +78,7 @@ def test_a_note_that_no_longer_fits_is_reported_and_not_used(planned, capsys):
         record = read_record("mine.plan.sums")
         (planned / "mine.plan.sums").write_text(replace(record, outputs=tuple(
             File.of(file.name, ".") for file in record.outputs)).text)
-        assert "is not what `pit-tools plan` writes" in read_note("mine.plan").why_not
+        assert "is not a sidecar file of `pit-tools plan`" in read_note("mine.plan").why_not
 
 
 def test_zone_files_that_are_not_those_of_the_plan_are_reported(planned, capsys):
@@ -87,5 +87,5 @@ def test_zone_files_that_are_not_those_of_the_plan_are_reported(planned, capsys)
     assert main(["survey", "mine.plan", "mine", "from-por.csv"]) == 2
     assert "from-por.csv: it is not the file that from.json.sums names" in capsys.readouterr().err
     (planned / "other.csv").write_text(text)
-    assert "- ROCK: zone files are other.csv, and those of the plan from-por.csv" in told(
+    assert "- ROCK: zone files are other.csv, but the plan's from-por.csv" in printed_by(
         capsys, "survey", "mine.plan", "mine", "other.csv")

@@ -47,12 +47,12 @@ def test_a_cell_is_changed_and_no_other(cell, value, old, new):
     assert varied(PLAN, "other", [(cell, value)]) == wanted and wanted != PLAN
 
 
-@pytest.mark.parametrize("sets, told",
+@pytest.mark.parametrize("sets, message",
                          [(["cost=3"], "no record of the plan has the cell `cost`"),
-                          (["mill.heap.cost=3"], "no record"), (["K"], "no CELL=VALUE"),
+                          (["mill.heap.cost=3"], "no record"), (["K"], "is not CELL=VALUE"),
                           (["K=2,2"], "comes twice"), (["rate=" + "0" * 70], "longer than 64")])
-def test_what_is_no_cell_is_reported(sets, told):
-    with pytest.raises(UserError, match=told):
+def test_what_is_no_cell_is_reported(sets, message):
+    with pytest.raises(UserError, match=message):
         list(variations(PLAN, "deposit", [Change.of(text) for text in sets]))
 
 
@@ -67,8 +67,8 @@ def test_sections_of_the_pipe_form_become_files(tmp_path):
     assert subprocess.run(words, input=text, **run).returncode == 0
     for ending in endings:
         assert open(f"{base}.{ending}").read() == (tmp_path / f"again.{ending}").read_text()
-    for wrong, told in (("", "has the sections none"),
-                        ("pitc: plan row 1: Key\n", "does not begin with a section"),
-                        (text + "== blocks\n", "stands twice")):
+    for wrong, message in (("", "has the sections none"),
+                           ("pitc: plan row 1: Key\n", "does not begin with a section"),
+                           (text + "== blocks\n", "appears twice")):
         done = subprocess.run(words, input=wrong, **run)
-        assert done.returncode == 2 and told in done.stderr and done.stderr.count("\n") == 1
+        assert done.returncode == 2 and message in done.stderr and done.stderr.count("\n") == 1

@@ -8,7 +8,7 @@ from scipy import sparse
 
 from pit_tools import Program, Schedule, write_lp, write_schedule
 from pit_tools.schedules.programs import Names
-from pit_tools.texts.spelling import ROWS, NotHeld, float_parts, joined, lines_of, shortest
+from pit_tools.texts.number_texts import ROWS, NotHeld, float_parts, joined, lines_of, shortest
 
 #: Integers at the ends of groups of digits, and of types.
 EDGES = [0, 1, 9, 10, 99, 9_999, 10_000, 10_001, 100_000, 99_999_999, 100_000_000, 2**31, 2**32 - 1,

@@ -6,6 +6,7 @@ on the file that it writes.
 import itertools
 import random
 
+from plain import prec_text, reaches, retained_of, smallest_of
 from rows import combined, fullest, thin_files
 from rows.cells import shortest
 from rows.cones import BOUNDARIES
@@ -62,45 +63,8 @@ def lists_of(sizes, cones, zones):
     return lists
 
 
-def mask_of(blocks):
-    """Blocks as the bits of a number."""
-    return sum(1 << block for block in blocks)
-
-
-def retained_of(lists):
-    """Returns for each list the blocks that are predecessors of no other one of it."""
-    taken, left = list(map(mask_of, lists)), []
-    for one in lists:
-        after = 0
-        for other in one:
-            after |= taken[other]
-        left.append([c for c in one if not after >> c & 1])
-    return left
-
-
-def reaches(lists):
-    """Returns for each block all to which a path of arcs leads."""
-    found = [0] * len(lists)
-    for n in reversed(range(len(lists))):
-        for c in lists[n]:
-            found[n] |= found[c] | 1 << c
-    return found
-
-
-def smallest_of(lists):
-    """Returns the transitive reduction: for each list, the blocks to which no path goes from another one of it."""
-    reached, smallest = reaches(lists), []
-    for one in lists:
-        after = 0
-        for other in one:
-            after |= reached[other]
-        smallest.append([c for c in one if not after >> c & 1])
-    return smallest
-
-
 def text_of(lists):
-    lines = (" ".join(map(str, [n, len(one), *one])) for n, one in enumerate(lists))
-    return "".join(line + "\n" for line in lines).encode()
+    return prec_text(lists).encode()
 
 
 def cone_of(cells):
@@ -358,8 +322,7 @@ def of_wide_cones():
 
 
 def of_holes():
-    """Half of the blocks of a box: neighbours differ from block to block so much that the program stores the retained arcs of a cone for
-    some alone."""
+    """Half of the blocks of a box: neighbours differ from block to block."""
     for name, cells, places in [
         ("1 : 30", ["1,30,3"], box(range(24), range(24), range(4))),
         ("1 : 4 among 1 : 2", ["1,4,3", "1,2,5"], box(range(18), range(18), range(6))),
@@ -372,12 +335,53 @@ def of_holes():
 
 
 def of_many_neighbourhoods():
-    """Different cones so wide that few blocks have neighbours like those of others: the program stores the retained arcs for as many as
-    it may, and drops these for others, some times."""
+    """Different cones so wide that few blocks have neighbours like those of others."""
     places = box(range(14), range(14), range(12))
     for name, zone_of in [("by turns", lambda place: place[2] % 3), ("beside one another", lambda place: place[0] // 5)]:
         zones = [[place for place in places if zone_of(place) == zone] for zone in range(3)]
         yield thinned(f"many neighbourhoods: {name}", ["1,2,12", "1,1,12", "2,1,12"], zones, sizes=(15, 15, 12))
+
+
+def dealt(places, count, seed):
+    """Blocks dealt to zones at random."""
+    chance, zones = random.Random(seed), [[] for _ in range(count)]
+    for place in places:
+        chance.choice(zones).append(place)
+    return zones
+
+
+def of_windows():
+    """Rows that are as long as the program's windows of 64 blocks, and a little longer or shorter; windows that begin at a gap, end at one,
+    or have one block; blocks at the ends of what a window sees; and different cones dealt at random in a row."""
+    for wide in (63, 64, 65, 127, 128, 129, 192, 193):
+        whole = box(range(wide), range(2), range(3))
+        yield thinned(f"windows: rows of {wide}", ["1,1,2"], [whole])
+        yield thinned(f"windows: rows of {wide}, from 9999 down", ["1,2,2"], [[(9999 - x, 9999 - y, z) for x, y, z in whole]])
+        for count in (2, 16):
+            cells = [f"{1 + zone % 2},{1 + zone % 3},{1 + zone % 4}" for zone in range(count)]
+            yield thinned(f"windows: {count} cones at random in rows of {wide}", cells, dealt(whole, count, wide))
+    whole = box(range(140), [0], range(3))
+    for gap in [
+        (1, 64), (1, 65), (1, 66), (63, 64), (63, 65), (64, 65), (64, 66), (60, 70), (10, 127), (10, 129), (126, 128), (128, 129),
+    ]:
+        for bench in range(2):
+            places = [(x, y, z) for x, y, z in whole if z != bench or x not in range(*gap)]
+            yield thinned(f"windows: bench {bench}, a gap of {gap}", ["1,2,2"], [places])
+            yield thinned(f"windows: bench {bench}, another cone in {gap}", ["1,2,2", "2,1,1"], [places, sorted({*whole} - {*places})])
+    for far in (1, 62, 63, 64, 65, 126, 127, 128, 129):
+        low, flat = box(range(400, 464), [0], [0]), f"1,{far},2"
+        for side, x in (("east", 463 + far), ("west", 400 - far)):
+            yield thinned(f"windows: one block {far} to the {side}", [flat], [[*low, (x, 0, 1)]])
+            yield thinned(f"windows: two blocks {far} to the {side}", [flat], [[*low, (x, 0, 1), (2 * x - 431, 0, 2), (431, 0, 2)]])
+            yield thinned(f"windows: one block {far} to the {side}, of another cone", [flat, "3,1,1"], [low, [(x, 0, 1), (x, 0, 2)]])
+    for cells in ("1,1,20", "1,3,20", "1,1000,20"):
+        yield thinned(f"windows: one block a row, {cells}", [cells], [box([0], range(30), range(8))])
+        yield thinned(f"windows: benches left out, {cells}", [cells], [box(range(70), [0], [0, 3, 9, 19, 20, 21])])
+        corners = box([0, 1, 9998, 9999], [0, 9999], [0, 1, 19, 20, 21, 9999])
+        yield thinned(f"windows: corners of the grid, {cells}", [cells], [corners])
+    yield thinned("windows: one bench", ["1,5,3"], [box(range(130), range(2), [9])])
+    for cells in (["1,1,4"] * 64, [f"{1 + zone % 3},{1 + zone % 5},{1 + zone % 8}" for zone in range(64)]):
+        yield thinned(f"windows: 64 zones, {len(set(cells))} cones", cells, dealt(box(range(130), [0, 1], range(3)), 64, 1))
 
 
 def of_fullest():
@@ -432,6 +436,7 @@ def trials():
     yield from of_wide_cones()
     yield from of_holes()
     yield from of_many_neighbourhoods()
+    yield from of_windows()
     yield from of_fullest()
     yield from of_large_models()
     yield from thin_files.trials()

@@ -117,7 +117,7 @@ def of_names():
 
 
 # The arguments of a run of pitc_thin that request a text, and parts of it.
-ABOUT = "Writes the precedences of a model, and leaves out arcs that follow from others."
+ABOUT = "Writes the precedences of a model without arcs that follow from others."
 SHOWN = [
     ("--help", ABOUT, "a solver has fewer arcs to take", "prints `rows N arcs M of L`", "[default: 64]"),
     ("-h", ABOUT), ("--version", "pitc_thin "), ("-V", "pitc_thin "),

@@ -1,6 +1,7 @@
--- Counting one file after the other counts the texts of all.
+-- Counting one file after the other counts the texts of all files.
 use Rattle.std.specs.Prelude.{◌≡◌, ℕ, List, length, Option, None, Some, Result, Ok, Err}
 use Rattle.std.proofs.Common.{refl, ap}
+use Rattle.devices.specs.feeds.FeedState.{FeedState}
 use Rattle.pit_units.specs.Steps.{◌>>=◌}
 use Rattle.minelib_reading.specs.BlockText.{blocks_in}
 use Rattle.minelib_reading.specs.Denotes.{cpit_denoted, denoted}
@@ -20,56 +21,56 @@ use Rattle.check_command.specs.Counts.{Texts, counted, cpit_counted}
 use Rattle.check_command.specs.inner.CountSteps.{counted_in, counted_on, no_counts}
 use Rattle.check_command.specs.declared.counts.Counts.{Counts}
 
-module _ (left : Option (List ℕ)) (limit gave : ℕ) (c : Counts) where
-  pub blocks_told : (answer : Result ℕ LineFault) → IsFedAnswer blocks_counted left limit gave answer
-      → IsFedAnswer (counted_in Blocks c) left limit gave (answer >>= λ n. Ok (record c { blocks = n }))
+module _ (limit : ℕ) (old new : FeedState) (c : Counts) where
+  pub blocks_reported : (answer : Result ℕ LineFault) → IsFedAnswer blocks_counted limit old new answer
+      → IsFedAnswer (counted_in Blocks c) limit old new (answer >>= λ n. Ok (record c { blocks = n }))
   unfolding counted_in
-  blocks_told answer fed = record {
+  blocks_reported answer fed = record {
     text = fed.text;
     is_text = fed.is_text;
     answers = ap (λ r. r >>= λ n. Ok (record c { blocks = n })) fed.answers;
   }
 
-  pub arcs_told : (answer : Result ℕ LineFault) → IsFedAnswer (arcs_counted c.blocks) left limit gave answer
-      → IsFedAnswer (counted_in Prec c) left limit gave (answer >>= λ arcs. Ok (record c { arcs = arcs }))
+  pub arcs_reported : (answer : Result ℕ LineFault) → IsFedAnswer (arcs_counted c.blocks) limit old new answer
+      → IsFedAnswer (counted_in Prec c) limit old new (answer >>= λ arcs. Ok (record c { arcs = arcs }))
   unfolding counted_in
-  arcs_told answer fed = record {
+  arcs_reported answer fed = record {
     text = fed.text;
     is_text = fed.is_text;
     answers = ap (λ r. r >>= λ arcs. Ok (record c { arcs = arcs })) fed.answers;
   }
 
-  pub model_told : (answer : Result (ℕ × ℕ) LineFault) → IsFedAnswer (model_counted problem.Pcpsp c.blocks) left limit gave answer
-      → IsFedAnswer (counted_in Pcpsp c) left limit gave (answer >>= λ x. Ok (record c { coefficients = x.0; limits = x.1 }))
+  pub model_reported : (answer : Result (ℕ × ℕ) LineFault) → IsFedAnswer (model_counted problem.Pcpsp c.blocks) limit old new answer
+      → IsFedAnswer (counted_in Pcpsp c) limit old new (answer >>= λ x. Ok (record c { coefficients = x.0; limits = x.1 }))
   unfolding counted_in
-  model_told answer fed = record {
+  model_reported answer fed = record {
     text = fed.text;
     is_text = fed.is_text;
     answers = ap (λ r. r >>= λ x. Ok (record c { coefficients = x.0; limits = x.1 })) fed.answers;
   }
 
-  pub cpit_told : (answer : Result (ℕ × ℕ) LineFault) → IsFedAnswer (model_counted problem.Cpit c.blocks) left limit gave answer
-      → IsFedAnswer (counted_in Cpit c) left limit gave (answer >>= λ x. Ok (record c { cpit = Some x.0 }))
+  pub cpit_reported : (answer : Result (ℕ × ℕ) LineFault) → IsFedAnswer (model_counted problem.Cpit c.blocks) limit old new answer
+      → IsFedAnswer (counted_in Cpit c) limit old new (answer >>= λ x. Ok (record c { cpit = Some x.0 }))
   unfolding counted_in
-  cpit_told answer fed = record {
+  cpit_reported answer fed = record {
     text = fed.text;
     is_text = fed.is_text;
     answers = ap (λ r. r >>= λ x. Ok (record c { cpit = Some x.0 })) fed.answers;
   }
 
--- of a file behind good ones
-pub told : (file : TextFile) (c : Counts) (left : Option (List ℕ)) (limit gave : ℕ) (answer : Result Counts LineFault)
-    → IsFedAnswer (counted_in file c) left limit gave answer → IsFedAnswer (counted_on file (Ok c)) left limit gave (in_file file answer)
+-- a file after valid ones
+pub reported : (file : TextFile) (c : Counts) (limit : ℕ) (old new : FeedState) (answer : Result Counts LineFault)
+    → IsFedAnswer (counted_in file c) limit old new answer → IsFedAnswer (counted_on file (Ok c)) limit old new (in_file file answer)
 unfolding counted_on
-told file c left limit gave answer fed = record { text = fed.text; is_text = fed.is_text; answers = ap (in_file file) fed.answers }
+reported file c limit old new answer fed = record { text = fed.text; is_text = fed.is_text; answers = ap (in_file file) fed.answers }
 
--- and behind a faulty line
-pub passed : (file : TextFile) (fault : TextFault) (left : Option (List ℕ)) (limit gave : ℕ) → (text : List ℕ) × IsTextOf left limit gave text
-    → IsFedAnswer (counted_on file (Err fault)) left limit gave (Err fault)
+-- and after an invalid line
+pub passed : (file : TextFile) (fault : TextFault) (limit : ℕ) (old new : FeedState) → (text : List ℕ) × IsTextOf limit old new text
+    → IsFedAnswer (counted_on file (Err fault)) limit old new (Err fault)
 unfolding counted_on
-passed file fault left limit gave went = record { text = went.0; is_text = went.1; answers = refl }
+passed file fault limit old new went = record { text = went.0; is_text = went.1; answers = refl }
 
--- the counts of the three files, and then of the fourth where there is one
+-- the counts of the three files, and then of the fourth, if there is one
 abbrev pub counted_three : List ℕ → List ℕ → List ℕ → Result Counts TextFault
 counted_three blocks prec pcpsp = counted_on Pcpsp (counted_on Prec (counted_on Blocks (Ok no_counts) blocks) prec) pcpsp
 
@@ -77,7 +78,7 @@ abbrev pub counted_four : Result Counts TextFault → Option (List ℕ) → Resu
 counted_four so_far None = so_far
 counted_four so_far (Some text) = counted_on Cpit so_far text
 
--- the two ways to the counts are one
+-- both ways of counting give the same counts
 abbrev pub AreCounted : Texts → Type 0
 AreCounted texts = counted_four (counted_three texts.blocks texts.prec texts.pcpsp) texts.cpit ≡ counted texts
 

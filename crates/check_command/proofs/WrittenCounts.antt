@@ -1,8 +1,8 @@
--- What is counted of texts that denote an instance and its constrained pit limit problem.
+-- The counts of texts that denote an instance and its constrained pit limit problem.
 use Rattle.std.proofs.Common.{◌≡◌, ◌∙◌, ℕ, List, [], ◌∷◌, ◌++◌, Option, Some, Result, Ok, Err, ap, sym, refl, subst, length, map}
 use Rattle.std.proofs.lemmas.List.{length-map}
 use Rattle.pit_units.specs.Steps.{◌>>=◌}
-use Rattle.mine_instance.specs.Greatest.{greatest}
+use Rattle.mine_instance.specs.Largest.{largest}
 use Rattle.mine_instance.specs.Instance.{Instance}
 use Rattle.mine_instance.specs.Valid.{IsValid}
 use Rattle.mine_instance.specs.cpit.Cpit.{CpitParts}
@@ -11,8 +11,8 @@ use Rattle.minelib_lines.specs.declared.text_name.TextName.TheVariants.{Blocks, 
 use Rattle.minelib_reading.specs.Denotes.{Denotes, DenotesCpit, cpit_denoted, denoted}
 use Rattle.minelib_writing.specs.Texts.{text_named}
 use Rattle.text_lines.specs.declared.text_fault.TextFault.{TextFault}
-use Rattle.check_command.specs.Counts.{TellsCounts, Texts, counted, counts_of, counts_words, cpit_counted}
-use Rattle.check_command.specs.WrittenTexts.{TellsCountsOf, own_counts, texts_of}
+use Rattle.check_command.specs.Counts.{ReportsCounts, Texts, counted, counts_of, counts_words, cpit_counted}
+use Rattle.check_command.specs.WrittenTexts.{ReportsCountsOf, own_counts, texts_of}
 use Rattle.check_command.specs.declared.counts.Counts.{Counts}
 
 cpit_back : (n : ℕ) (text : List ℕ) (c : CpitParts) → cpit_denoted n text ≡ Ok c → cpit_counted n (Some text) ≡ Ok (Some (length c.coefs))
@@ -29,11 +29,11 @@ all_back texts i coefs read more =
 pub counted_back : (i : Instance) → IsValid i → Denotes (text_named Blocks i) (text_named Prec i) (text_named Pcpsp i) i
     → DenotesCpit (length (cpit i).values) (text_named Cpit i) (cpit i) → counted (texts_of i) ≡ Ok (own_counts i)
 counted_back i valid read more =
-    let count : length (cpit i).values ≡ length i.blocks = length-map i.values greatest ∙ valid.lengths.values in
+    let count : length (cpit i).values ≡ length i.blocks = length-map i.values largest ∙ valid.lengths.values in
     all_back (texts_of i) i (Some (length (cpit i).coefs)) read
     (cpit_back (length i.blocks) (text_named Cpit i) (cpit i) (subst (λ n. cpit_denoted n (text_named Cpit i) ≡ Ok (cpit i)) count more))
 
--- what is told is the line of what is counted
+-- what is reported is the line with the counts
 counts_or : Result Counts TextFault → Counts → Counts
 counts_or (Ok c) other = c
 counts_or (Err fault) other = other
@@ -42,8 +42,8 @@ ok_same : (a b : Counts) (x : Result Counts TextFault) → x ≡ Ok a → x ≡ 
 unfolding counts_or
 ok_same a b x e f = ap (λ r. counts_or r a) (sym e ∙ f)
 
-pub told_back : (i : Instance) (old new : List ℕ) → counted (texts_of i) ≡ Ok (own_counts i) → TellsCounts (texts_of i) old new
-    → TellsCountsOf i old new
-told_back i old new is told =
-    let same : told.1.0 ≡ own_counts i = ok_same told.1.0 (own_counts i) (counted (texts_of i)) told.1.1 is in
-    told.2 ∙ ap (λ line. old ++ line) (told.1.2 ∙ ap (λ c. counts_words c ++ 10 ∷ []) same)
+pub reported_back : (i : Instance) (old new : List ℕ) → counted (texts_of i) ≡ Ok (own_counts i) → ReportsCounts (texts_of i) old new
+    → ReportsCountsOf i old new
+reported_back i old new is reported =
+    let same : reported.1.0 ≡ own_counts i = ok_same reported.1.0 (own_counts i) (counted (texts_of i)) reported.1.1 is in
+    reported.2 ∙ ap (λ line. old ++ line) (reported.1.2 ∙ ap (λ c. counts_words c ++ 10 ∷ []) same)

@@ -1,4 +1,4 @@
--- The texts that a compile writes of an instance, as a check reads them, and what is told of them.
+-- The files that a compile writes for an instance, as a check reads them, and what the check reports.
 use Rattle.std.specs.Prelude.{◌≡◌, ℕ, List, [], ◌∷◌, ◌++◌, Some, length, sum_by}
 use Rattle.mine_instance.specs.Instance.{Instance}
 use Rattle.mine_instance.specs.cpit.OfCpit.{cpit}
@@ -7,7 +7,7 @@ use Rattle.minelib_writing.specs.Texts.{text_named}
 use Rattle.check_command.specs.Counts.{Texts, counts_words}
 use Rattle.check_command.specs.declared.counts.Counts.{Counts}
 
--- all of them but that of the UPIT, which a check does not read
+-- all files except the UPIT, which a check does not read
 abbrev pub texts_of : Instance → Texts
 texts_of i = record {
   blocks = text_named Blocks i;
@@ -16,7 +16,7 @@ texts_of i = record {
   cpit = Some (text_named Cpit i);
 }
 
--- how many blocks, arcs, coefficients and limits the instance has, and how many coefficients its CPIT
+-- the numbers of blocks, arcs, coefficients and limits of the instance, and of the coefficients of its CPIT
 abbrev pub own_counts : Instance → Counts
 own_counts i = record {
   blocks = length i.blocks;
@@ -26,6 +26,6 @@ own_counts i = record {
   cpit = Some (length (cpit i).coefs);
 }
 
--- the line of these counts was appended
-abbrev pub TellsCountsOf : Instance → (out_old out_new : List ℕ) → Type 0
-TellsCountsOf i out_old out_new = out_new ≡ out_old ++ (counts_words (own_counts i) ++ 10 ∷ [])
+-- the line with these counts was appended
+abbrev pub ReportsCountsOf : Instance → (out_old out_new : List ℕ) → Type 0
+ReportsCountsOf i out_old out_new = out_new ≡ out_old ++ (counts_words (own_counts i) ++ 10 ∷ [])

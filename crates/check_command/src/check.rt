@@ -1,7 +1,7 @@
-//! The check of the files of an instance.
+//! The check of an instance's files.
 
 ghost use Rattle.std.specs.Prelude.{◌≡◌, ◌≢◌, ◌≤◌, ◌⊎◌, IfErr, IfOk, IfSome, OnErr, OnOk};
-ghost use Rattle.check_command.specs.Checked.{FailsIn, IsCheckStatus, IsFoundIn, IsFoundInOpenedFiles, IsMissing, IsNotAsked, TellsFiles, TellsOpenedFiles};
+ghost use Rattle.check_command.specs.Checked.{FailsIn, IsCheckStatus, IsFoundIn, IsFoundInOpenedFiles, IsMissing, IsNotAsked, ReportsFiles, ReportsOpenedFiles};
 ghost use Rattle.check_command.specs.inner.CheckSteps.{CountsAll, CountsFile, CountsIfThere};
 ghost use Rattle.refusals.specs.declared.refusal.Refusal.TheVariants.{OutOfMemory};
 ghost use Rattle.plan_parts.specs.declared.ranges.TheConstants.{MAX_BLOCKS};
@@ -11,7 +11,7 @@ ghost use Rattle.command_io.specs.declared.refused.Refused.TheVariants.{Run};
 use crate::counting::count_on;
 use crate::counts::Counts;
 use command_io::refused::Refused;
-use command_io::refused::fault_line::tell;
+use command_io::refused::fault_line::report;
 use command_io::refused::source::Source;
 use devices::files::file_access::AtPath;
 use devices::files::opener::Opener;
@@ -20,15 +20,15 @@ use std::alloc::Global;
 use std::rt::Files;
 use text_lines::text_fault::{TextFault, TextFile};
 
-/// Reads the files of an instance, `BASE.blocks`, `BASE.prec` and `BASE.pcpsp`, then `BASE.cpit` if it can be opened, and
-/// counts each text while its file is read. Appends the line of their counts to `out`, or the line of the first fault to `err`; only one
-/// of the two grows. A file that cannot be opened or read, or is too long, is told before a faulty line of any file; of several the first.
-/// Opens no other file. Returns the status that the program ends with:
+/// Reads the files of an instance, `BASE.blocks`, `BASE.prec` and `BASE.pcpsp`, then `BASE.cpit` if it can be opened, and counts
+/// each text while its file is read. Appends the line of their counts to `out`, or the line of the first error to `err`; at most
+/// one of the two grows. A file that cannot be opened or read, or is too long, is reported before an invalid line of any file; of
+/// several such files, the first is reported. Opens no other file. Returns the exit status:
 ///
 /// - 0: the counts were appended;
-/// - 1: a text is too long, or has a faulty line;
+/// - 1: a text is too long, or has an invalid line;
 /// - 3: a file cannot be opened or read;
-/// - 4: memory was refused, and both vectors are as they were.
+/// - 4: memory was refused, and both vectors are unchanged.
 pub fn check<O: Opener>(
     alloc: Global,
     files: &mut O,
@@ -36,21 +36,20 @@ pub fn check<O: Opener>(
     out: &mut Vec<u8>,
     err: &mut Vec<u8>,
 ) -> u8
-    ensures ends { IsDoneOrRefused (TellsFiles base.now O.Opened.left O.Opened.given O.Opened.failures
-        O.File.path (O.opened files.old) (O.opened files.new))
-        (IsFoundIn base.now O.Opened.left O.Opened.given O.Opened.failures
-        O.File.path (O.opened files.old) (O.opened files.new))
+    ensures ends { IsDoneOrRefused (ReportsFiles base.now O.Opened.state O.File.path
+        (O.opened files.old) (O.opened files.new)) (IsFoundIn base.now O.Opened.state O.File.path
+        (O.opened files.old) (O.opened files.new))
         out.old.items out.new.items err.old.items err.new.items result }
     ensures status { IsCheckStatus result }
     ensures memory { result ≡ 4 → err.new.items ≡ err.old.items }
 {
-    match tell_counts(alloc, base, files, out) {
+    match report_counts(alloc, base, files, out) {
         Ok(()) => 0,
-        Err(refused) => tell(alloc, &refused, err),
+        Err(refused) => report(alloc, &refused, err),
     }
 }
 
-/// The same of the files of the system, which it opened at these paths. No contract can say what they hold.
+/// Does the same for the system's files, which it opens at these paths. No contract can state their content.
 pub fn check_files<R: Files>(
     rt: &R,
     alloc: Global,
@@ -61,7 +60,7 @@ pub fn check_files<R: Files>(
 where
     R::File: Send,
     ensures ends { IsDoneOrRefused
-        (TellsOpenedFiles base.now (⟦<SystemFile<R::File> as AtPath>⟧.path))
+        (ReportsOpenedFiles base.now (⟦<SystemFile<R::File> as AtPath>⟧.path))
         (IsFoundInOpenedFiles base.now (⟦<SystemFile<R::File> as AtPath>⟧.path))
         out.old.items out.new.items err.old.items err.new.items result }
     ensures status { IsCheckStatus result }
@@ -70,18 +69,18 @@ where
     check(alloc, &mut SystemFiles::new(rt), base, out, err)
 }
 
-// Appends the line of the counts of the files. Where it is refused `out` is as it was.
-fn tell_counts<O: Opener>(
+// Appends the line with the counts of the files. After an error `out` is unchanged.
+fn report_counts<O: Opener>(
     alloc: Global,
     base: &str,
     files: &mut O,
     out: &mut Vec<u8>,
 ) -> Result<(), Refused>
-    ensures counts { OnOk result (TellsFiles base.now O.Opened.left O.Opened.given O.Opened.failures
-        O.File.path (O.opened files.old) (O.opened files.new) out.old.items out.new.items) }
+    ensures counts { OnOk result (ReportsFiles base.now O.Opened.state O.File.path
+        (O.opened files.old) (O.opened files.new) out.old.items out.new.items) }
     ensures kept { OnErr result (out.new.items ≡ out.old.items) }
-    ensures fault { IfErr result (IsFoundIn base.now O.Opened.left O.Opened.given O.Opened.failures
-        O.File.path (O.opened files.old) (O.opened files.new)) }
+    ensures fault { IfErr result (IsFoundIn base.now O.Opened.state O.File.path
+        (O.opened files.old) (O.opened files.new)) }
 {
     let counts = match count_all(alloc, base, files)? {
         Ok(counts) => counts,
@@ -92,16 +91,16 @@ fn tell_counts<O: Opener>(
     Ok(())
 }
 
-// What the texts of the files are counted as, or the first faulty line of them. Each file is read to its end in either case.
+// Returns the counts of the files' texts, or the first invalid line. Reads each file to its end in either case.
 fn count_all<O: Opener>(
     alloc: Global,
     base: &str,
     files: &mut O,
 ) -> Result<Result<Counts, TextFault>, Refused>
-    ensures counts { IfOk result (CountsAll base.now O.Opened.left O.Opened.given O.Opened.failures
-        O.File.path (O.opened files.old) (O.opened files.new)) }
-    ensures fault { IfErr result (IsFoundIn base.now O.Opened.left O.Opened.given O.Opened.failures
-        O.File.path (O.opened files.old) (O.opened files.new)) }
+    ensures counts { IfOk result (CountsAll base.now O.Opened.state O.File.path
+        (O.opened files.old) (O.opened files.new)) }
+    ensures fault { IfErr result (IsFoundIn base.now O.Opened.state O.File.path
+        (O.opened files.old) (O.opened files.new)) }
 {
     let blocks = count_file(alloc, base, TextFile::Blocks, files, Ok(Counts::new()))?;
     let prec = count_file(alloc, base, TextFile::Prec, files, blocks)?;
@@ -112,7 +111,7 @@ fn count_all<O: Opener>(
     }
 }
 
-// What a file is counted as, behind the files before. It is none that may be missing.
+// Returns the counts of a file and of earlier files. It must be a file that is required.
 fn count_file<O: Opener>(
     alloc: Global,
     base: &str,
@@ -123,11 +122,11 @@ fn count_file<O: Opener>(
     requires needed { file ≢ TextFile.Cpit }
     requires few { IfOk so_far (λ counts. counts.blocks ≤ MAX_BLOCKS) }
     ensures counts { IfOk result
-        (CountsFile base.now O.Opened.left O.Opened.given O.Opened.failures O.File.path
-        file so_far (O.opened files.old) (O.opened files.new)) }
+        (CountsFile base.now O.Opened.state O.File.path file so_far (O.opened files.old)
+        (O.opened files.new)) }
     ensures few { IfOk result (λ answer. IfOk answer (λ counts. counts.blocks ≤ MAX_BLOCKS)) }
-    ensures fault { IfErr result (λ refused. FailsIn base.now O.Opened.left O.Opened.given O.Opened.failures
-        O.File.path file (O.opened files.old) (O.opened files.new) refused
+    ensures fault { IfErr result (λ refused. FailsIn base.now O.Opened.state O.File.path file
+        (O.opened files.old) (O.opened files.new) refused
         ⊎ (IsMissing base.now file (O.opened files.old) (O.opened files.new) refused
         ⊎ IsNotAsked (O.opened files.old) (O.opened files.new) refused)) }
 {
@@ -137,7 +136,7 @@ fn count_file<O: Opener>(
     }
 }
 
-// The same, or `None` where the file cannot be opened.
+// The same, or `None` if the file cannot be opened.
 #[tactic(auto, using(crate::proofs::Checks::unread_file, crate::proofs::Checks::counted_file))]
 fn count_if_there<O: Opener>(
     alloc: Global,
@@ -148,12 +147,12 @@ fn count_if_there<O: Opener>(
 ) -> Result<Option<Result<Counts, TextFault>>, Refused>
     requires few { IfOk so_far (λ counts. counts.blocks ≤ MAX_BLOCKS) }
     ensures counts { IfOk result
-        (CountsIfThere base.now O.Opened.left O.Opened.given O.Opened.failures O.File.path
-        file so_far (O.opened files.old) (O.opened files.new)) }
+        (CountsIfThere base.now O.Opened.state O.File.path file so_far (O.opened files.old)
+        (O.opened files.new)) }
     ensures few { IfOk result (λ found. IfSome found (λ answer. IfOk answer
         (λ counts. counts.blocks ≤ MAX_BLOCKS))) }
-    ensures fault { IfErr result (λ refused. FailsIn base.now O.Opened.left O.Opened.given O.Opened.failures
-        O.File.path file (O.opened files.old) (O.opened files.new) refused
+    ensures fault { IfErr result (λ refused. FailsIn base.now O.Opened.state O.File.path file
+        (O.opened files.old) (O.opened files.new) refused
         ⊎ IsNotAsked (O.opened files.old) (O.opened files.new) refused) }
 {
     let path = format!(in alloc; "{base}.{file}")?;

@@ -1,23 +1,23 @@
-//! The counts of the texts of an instance.
+//! The counts of an instance's files.
 
 ghost use Rattle.std.specs.Prelude.{◌≡◌};
 ghost use Rattle.check_command.specs.inner.CountSteps.{no_counts};
 
 use std::fmt;
 
-/// The counts of an instance, shown as the line that the program prints of them.
+/// The counts of an instance. Its text is the line that the program prints.
 #[derive(Clone, Copy, Debug, PartialEq, Eq)]
 pub struct Counts {
     pub blocks: usize,
     pub arcs: usize,
     pub coefficients: usize,
     pub limits: usize,
-    /// The coefficients of the constrained pit limit problem, where it has a text.
+    /// The number of coefficients of the constrained pit limit problem, if it has a text.
     pub cpit: Option<usize>,
 }
 
 impl Counts {
-    /// Of no text yet.
+    /// Makes the counts before any file.
     pub fn new() -> Counts
         ensures { result ≡ no_counts }
     {

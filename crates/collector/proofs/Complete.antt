@@ -1,4 +1,4 @@
--- Complete lists are refused nowhere and lack nothing.
+-- Complete lists are not rejected anywhere, and nothing is missing in them.
 use Rattle.std.proofs.Common.{◌≡◌, ℕ, suc, ◌+◌, ◌<◌, Bool, true, false, ◌&&◌, cond, eqb, ltb, is_some, List, [], ◌∷◌, ◌++◌, Option, Some, None, refl, sym, ap, subst, ◌∙◌, ⊎_elim, arith}
 use Rattle.std.specs.List.{AllByRecursion, Contains, count_by}
 use Rattle.std.specs.List.Sorted.{IsPermutation}
@@ -16,7 +16,7 @@ use Rattle.collector.specs.Found.{is_row_at, is_end_of, row_at, end_at, has_past
 use Rattle.collector.specs.Lists.{IsFull, IsMissing, IsOpen}
 use Rattle.collector.proofs.Slots.{eqb-other}
 
--- one item more counts once, if it passes
+-- another item counts once, if it passes
 pub counted : (p : Item → Bool) (item : Item) (items : List Item) → count_by p (item ∷ items) ≡ cond (p item) 1 0 + count_by p items
 counted p item items = sum_by-cons (λ x. cond (p x) 1 0) item items
 
@@ -26,7 +26,7 @@ counted-yes p item items passes = counted p item items ∙ ap (λ b. cond b 1 0 
 pub counted-no : (p : Item → Bool) (item : Item) (items : List Item) → p item ≡ false → count_by p (item ∷ items) ≡ count_by p items
 counted-no p item items fails = let e = counted p item items ∙ ap (λ b. cond b 1 0 + count_by p items) fails in omega arith
 
--- a row is found where one is counted, and an end mark too
+-- a row is found if one is counted, and so is an end mark
 found-more : {A : Type 0} (p : Item → Bool) (item : Item) (items : List Item) (first : A) (o : Option A)
     → is_some o ≡ ltb 0 (count_by p items) → is_some (cond (p item) (Some first) o) ≡ ltb 0 (count_by p (item ∷ items))
 found-more p item items first o found =
@@ -45,7 +45,7 @@ end-found file [] = sym (le-ltb 0 0 (omega arith))
 end-found file (Row v ∷ items) = end-found file items ∙ ap (ltb 0) (sym (counted-no (is_end_of file) (Row v) items refl))
 end-found file (End f n ∷ items) = found-more (is_end_of file) (End f n) items n (end_at file items) (end-found file items)
 
--- an item of the rest is an item of the whole
+-- an item of the remainder is an item of the whole
 later : (items : List Item) (first item : Item) → Contains items item → Contains (first ∷ items) item
 later items first item h = (suc h.0, omega (arith, h.1), h.2)
 
@@ -80,14 +80,14 @@ end-held (End f n ∷ items) file count e =
     (end-held items file count (sym (cond-false (eqb f file) (Some n) (end_at file items) no) ∙ e)))
     (cases_Bool (eqb f file))
 
--- where the items fit, an end mark that is found has its file's count
+-- if the items fit, an end mark that is found has its file's count
 pub end-fits : (files : ℕ) (counts : ℕ → ℕ) (file count : ℕ) (items : List Item) → AllByRecursion (Fits files counts) items →
     end_at file items ≡ Some count → count ≡ counts file
 end-fits files counts file count items fit e =
     (All-contains (Fits files counts) items (End file count) (All-from_recursion (Fits files counts) items fit)
     (end-held items file count e)).1
 
--- and no row is at that count or past it
+-- and no row is at that count or after it
 past-fits : (files : ℕ) (counts : ℕ → ℕ) (file : ℕ) (items : List Item) → AllByRecursion (Fits files counts) items →
     has_past file (counts file) items ≡ false
 past-fits files counts file [] fit = refl
@@ -105,16 +105,16 @@ after-fits files counts file place items fit below None e = refl
 after-fits files counts file place items fit below (Some n) e =
     let same = end-fits files counts file n items fit e in lt-leb n place (omega arith)
 
--- what fits, fits before and at each item
-front : (P : Item → Type 0) (held rest : List Item) → AllByRecursion P (held ++ rest) → AllByRecursion P held
-front P [] rest fit = tt
-front P (x ∷ held) rest fit = (fit.0, front P held rest fit.1)
+-- what fits the whole fits the items before an item and the item
+prefix : (P : Item → Type 0) (held rest : List Item) → AllByRecursion P (held ++ rest) → AllByRecursion P held
+prefix P [] rest fit = tt
+prefix P (x ∷ held) rest fit = (fit.0, prefix P held rest fit.1)
 
 at-cut : (P : Item → Type 0) (held rest : List Item) (item : Item) → AllByRecursion P (held ++ item ∷ rest) → P item
 at-cut P [] rest item fit = fit.0
 at-cut P (x ∷ held) rest item fit = at-cut P held rest item fit.1
 
--- what is counted once, at an item, is not counted before it
+-- an item that is counted once is not counted before itself
 single-cut : (p : Item → Bool) (held rest : List Item) (item : Item) → p item ≡ true → count_by p (held ++ item ∷ rest) ≡ 1 →
     ltb 0 (count_by p held) ≡ false
 single-cut p held rest item passes once =
@@ -130,7 +130,7 @@ not_refused files held rest (Row v) whole =
     let single = single-cut (is_row_at v.file v.place) held rest (Row v)
     (rw (eq-eqb v.file v.file refl, eq-eqb v.place v.place refl)) (whole.rows v.file v.place here.0 here.1) in
     let fresh = row-found v.file v.place held ∙ single in
-    let below = after-fits files whole.counts v.file v.place held (front _ held (Row v ∷ rest) fit) here.1 (end_at v.file held) refl in
+    let below = after-fits files whole.counts v.file v.place held (prefix _ held (Row v ∷ rest) fit) here.1 (end_at v.file held) refl in
     rw (fresh, lt-leb files v.file here.0, lt-leb 1000000 v.place (omega arith), below)
 not_refused files held rest (End f n) whole =
     let fit = recursion_from_All (Fits files whole.counts) _ whole.others in
@@ -139,7 +139,7 @@ not_refused files held rest (End f n) whole =
     let single = single-cut (is_end_of f) held rest (End f n) (eq-eqb f f refl) (whole.ends f here.0) in
     let fresh = end-found f held ∙ single in
     let none : has_past f n held ≡ false
-    = subst (λ (k : ℕ). has_past f k held ≡ false) (sym here.1) (past-fits files whole.counts f held (front _ held (End f n ∷ rest) fit)) in
+    = subst (λ (k : ℕ). has_past f k held ≡ false) (sym here.1) (past-fits files whole.counts f held (prefix _ held (End f n ∷ rest) fit)) in
     rw (lt-leb files f here.0, fresh, le-ltb 1000000 n (omega arith), none)
 
 -- a look-up that finds something
@@ -151,15 +151,15 @@ pub is_full : (files : ℕ) (items : List Item) (file : ℕ) → IsComplete file
 is_full files items file whole within =
     let fit = recursion_from_All (Fits files whole.counts) _ whole.others in
     let once = whole.ends file within in
-    let mark = some-value (end_at file items) (end-found file items ∙ lt-ltb 0 _ (omega arith)) in
-    let same = end-fits files whole.counts file mark.0 items fit mark.1 in (
-      mark.0,
-      mark.1,
+    let end_mark = some-value (end_at file items) (end-found file items ∙ lt-ltb 0 _ (omega arith)) in
+    let same = end-fits files whole.counts file end_mark.0 items fit end_mark.1 in (
+      end_mark.0,
+      end_mark.1,
       λ place below. row-found file place items
           ∙ lt-ltb 0 _ (let held = whole.rows file place within (omega arith) in omega arith),
     )
 
--- a full file lacks no row
+-- in a full file no row is missing
 full-not-open : (items : List Item) (file place : ℕ) → IsFull items file → IsOpen (end_at file items) place
     → row_at file place items ≡ None → ⊥
 full-not-open items file place full open' none =

@@ -39,7 +39,7 @@ counted-either p q (item ∷ items) =
     once true b = omega arith
     once false b = omega arith
 
--- n tests that pass so many items each
+-- n tests, each passed by at most `most` items
 few-passed : (n most : ℕ) (test : ℕ → Item → Bool) (items : List Item) → ((k : ℕ) → k < n → count_by (test k) items ≤ most)
     → count_by (one_of n test) items ≤ n * most
 few-passed zero most test items each = let none = none-passes items in omega (arith, none)
@@ -61,7 +61,7 @@ all-counted p (item ∷ items) all =
     omega (arith, more, all-counted p items (All-tail (λ i. p i ≡ true) item items all))
 
 module _ (files : ℕ) (items : List Item) (whole : IsComplete files items) where
-  -- the row of a place of a file, or behind its rows its end mark
+  -- the row at a place of a file, or its end mark at the place after its rows
   abbrev is_at : ℕ → ℕ → Item → Bool
   is_at file k item = cond (eqb k (whole.counts file)) (is_end_of file item) (is_row_at file k item)
 
@@ -70,11 +70,11 @@ module _ (files : ℕ) (items : List Item) (whole : IsComplete files items) wher
 
   once : (file : ℕ) → file < files → (k : ℕ) → k < suc (whole.counts file) → count_by (is_at file k) items ≤ 1
   once file within k below =
-      let told : (b : Bool) → eqb k (whole.counts file) ≡ b → count_by (is_at file k) items ≡ count_by (λ i. cond b (is_end_of file i) (is_row_at file k i)) items
+      let reported : (b : Bool) → eqb k (whole.counts file) ≡ b → count_by (is_at file k) items ≡ count_by (λ i. cond b (is_end_of file i) (is_row_at file k i)) items
       = λ b e. ap (λ c. count_by (λ i. cond c (is_end_of file i) (is_row_at file k i)) items) e in
-      ⊎_elim (λ same. let is = told true (eq-eqb k (whole.counts file) same) ∙ whole.ends file within in omega (arith, is))
+      ⊎_elim (λ same. let is = reported true (eq-eqb k (whole.counts file) same) ∙ whole.ends file within in omega (arith, is))
       (λ differs.
-      let is = told false (eqb-other k (whole.counts file) differs) ∙ whole.rows file k within (next k (whole.counts file) below differs) in omega (arith, is))
+      let is = reported false (eqb-other k (whole.counts file) differs) ∙ whole.rows file k within (next k (whole.counts file) below differs) in omega (arith, is))
       (cases_eq k (whole.counts file))
     where
       next : (k n : ℕ) → k < suc n → (k ≡ n → ⊥) → k < n
@@ -104,7 +104,7 @@ module _ (files : ℕ) (items : List Item) (whole : IsComplete files items) wher
       (All-weaker (Fits files whole.counts) (λ i. one_of files is_of_file i ≡ true) of-file items whole.others) in
       subst (λ (n : ℕ). n ≤ files * (MAX_ROWS + 1)) (sym all) passed
 
--- none of several lists is longer than all together
+-- each of several lists is at most as long as all together
 pub list-within : (lists : List (List Item)) (l : ℕ) → length (get_or lists l []) ≤ length (flat_map (λ list. list) lists)
 list-within [] l = omega arith
 list-within (list ∷ lists) zero = omega (arith, length-append list (flat_map (λ l. l) lists))

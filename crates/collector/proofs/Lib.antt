@@ -1,9 +1,9 @@
 pub mod Complete
 pub mod Few
 pub mod Finished
-pub mod Kept
+pub mod Grouped
+pub mod ItemsByFile
 pub mod Ordered
 pub mod Placing
-pub mod Shelves
 pub mod Slots
 pub mod WithAt

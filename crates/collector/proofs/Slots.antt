@@ -1,11 +1,11 @@
--- The slots of a shelf after one more row.
+-- The places of a file's rows after another row.
 use Rattle.std.proofs.Common.{◌≡◌, ℕ, ◌≤◌, eqb, false, List, length, Some, None, refl, sym, ap, ◌∙◌, ⊎_elim}
 use Rattle.std.specs.List.{slice_get}
 use Rattle.std.specs.Option.{option_and_then}
 use Rattle.std.proofs.lemmas.Bool.{cond-true, cond-false, cases_lt, eqb-true, false_from_ne_true, eq-eqb}
 use Rattle.std.proofs.lemmas.Option.{slice_get_past}
 use Rattle.rows.specs.declared.item.Valued.{Valued}
-use Rattle.collector.specs.inner.Shelves.{if_at, slot}
+use Rattle.collector.specs.inner.ItemsByFile.{if_at, slot}
 use Rattle.collector.specs.inner.WithAt.{with_at}
 use Rattle.collector.proofs.WithAt.{get-kept, get-new, get-store}
 
@@ -24,11 +24,11 @@ slot-at rows place v e = ap (option_and_then (if_at place)) e
 pub slot-past : (rows : List Valued) (place : ℕ) → length rows ≤ place → slot rows place ≡ None
 slot-past rows place past = ap (option_and_then (if_at place)) (slice_get_past rows place past)
 
--- the row that was put, at its place
+-- the row that was stored, at its place
 pub slot-store : (rows : List Valued) (v : Valued) → slot (with_at rows v.place v) v.place ≡ Some v
 slot-store rows v = slot-at (with_at rows v.place v) v.place v (get-store rows v.place v) ∙ if_at-same v v.place refl
 
--- and what the other places had: a place that is filled by a row of another place is as empty as before
+-- and the rows of other places: a place that is filled by a row of another place is as empty as before
 pub slot-kept : (rows : List Valued) (v : Valued) (place : ℕ) → (v.place ≡ place → ⊥)
     → slot (with_at rows v.place v) place ≡ slot rows place
 slot-kept rows v place differs =

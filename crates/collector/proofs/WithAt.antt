@@ -1,4 +1,4 @@
--- A list with one element more, at its place.
+-- A list with another element, at its place.
 use Rattle.std.proofs.Common.{◌⊎◌, ◌≡◌, ℕ, zero, suc, ◌+◌, ◌-◌, ◌<◌, ◌≤◌, ltb, List, [], ◌∷◌, ◌++◌, length, set, replicate, Some, refl, ap, ◌∙◌, ⊎_elim, inl, inr, arith, length-append, length-set}
 use Rattle.std.specs.List.{slice_get}
 use Rattle.std.proofs.lemmas.Bool.{cond-true, cond-false, lt-ltb, le-ltb, cases_lt}
@@ -22,7 +22,7 @@ get-append_left [] ys k within = absurd (omega arith)
 get-append_left (x ∷ xs) ys zero within = refl
 get-append_left (x ∷ xs) ys (suc k) within = get-append_left xs ys k (omega arith)
 
--- past the first list, one value at each place
+-- after the first list, one value at each place
 get-filled : {A : Type 0} (xs : List A) (y : A) (n k : ℕ) → length xs ≤ k → k < length xs + n
     → slice_get (xs ++ replicate n y) k ≡ Some y
 get-filled [] y zero k past within = absurd (omega arith)
@@ -54,14 +54,14 @@ length-with_at xs place x =
 pub length-store : {A : Type 0} (xs : List A) (place most : ℕ) (x : A) → length xs ≤ most → place < most → length (with_at xs place x) ≤ most
 length-store xs place most x few below = ⊎_elim (λ h. omega (arith, h.1)) (λ h. omega (arith, h.1)) (length-with_at xs place x)
 
--- the element that was put
+-- the element that was stored
 pub get-store : {A : Type 0} (xs : List A) (place : ℕ) (x : A) → slice_get (with_at xs place x) place ≡ Some x
 get-store xs place x =
     ⊎_elim (λ within. ap (λ ys. slice_get ys place) (with_within xs place x within) ∙ get-set_same xs place x within)
     (λ past. ap (λ ys. slice_get ys place) (with_past xs place x past) ∙ get-filled xs x (place + 1 - length xs) place past (omega arith))
     (cases_lt place (length xs))
 
--- what another place had
+-- the element of another place
 pub get-kept : {A : Type 0} (xs : List A) (place k : ℕ) (x : A) → (k ≡ place → ⊥) → k < length xs
     → slice_get (with_at xs place x) k ≡ slice_get xs k
 get-kept xs place k x differs there =
@@ -69,7 +69,7 @@ get-kept xs place k x differs there =
     (λ past. ap (λ ys. slice_get ys k) (with_past xs place x past) ∙ get-append_left xs (replicate (place + 1 - length xs) x) k there)
     (cases_lt place (length xs))
 
--- and a place that had nothing
+-- and a place that had none
 pub get-new : {A : Type 0} (xs : List A) (place k : ℕ) (x : A) → length xs ≤ k
     → (slice_get (with_at xs place x) k ≡ Some x) ⊎ (length (with_at xs place x) ≤ k)
 get-new xs place k x past =

@@ -1,4 +1,4 @@
--- The items that a collector refuses.
+-- The items that a collector rejects.
 use Rattle.std.specs.Prelude.{ℕ, Bool, false, if◌then◌else◌, ◌||◌, nat_le, nat_lt, is_some, List, Option, Some, None}
 use Rattle.rows.specs.declared.item.Item.{Item}
 use Rattle.rows.specs.declared.item.Item.TheVariants.{Row, End}

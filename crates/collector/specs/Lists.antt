@@ -1,4 +1,4 @@
--- The lists of rows that a list of items gives, or the first row that is missing.
+-- The lists of rows in a list of items, or the first row that is missing.
 use Rattle.std.specs.Prelude.{◌≡◌, ℕ, ◌<◌, true, is_some, List, length, slice_get, Option, Some, None}
 use Rattle.std.specs.List.{flat_map}
 use Rattle.rows.specs.declared.item.Item.{Item}
@@ -24,7 +24,7 @@ abbrev pub IsOpen : Option ℕ → ℕ → Type 0
 IsOpen None place = Unit {0}
 IsOpen (Some count) place = place < count
 
--- the first file that is not full, and its first place without a row
+-- the first file that is not full, and the first place in it without a row
 pub record IsMissing (files : ℕ) (held : List Item) (file place : ℕ) : Type 0 where
   pub within : file < files
   pub before : (other : ℕ) → other < file → IsFull held other

@@ -1,3 +1,3 @@
+pub mod ItemsByFile
 pub mod Places
-pub mod Shelves
 pub mod WithAt

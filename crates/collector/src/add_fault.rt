@@ -1,4 +1,4 @@
-//! Why an item is refused.
+//! The faults of items.
 
 ghost use Rattle.std.specs.Prelude.{◌≡◌};
 ghost use Rattle.collector.specs.declared.add_fault.AddFault.TheVariants.{OutOfMemory};
@@ -9,19 +9,19 @@ use thiserror::Error;
 /// Why an item was not added: the first reason in this order. The collector is unchanged.
 #[derive(Clone, Copy, Debug, Error, PartialEq, Eq)]
 pub enum AddFault {
-    /// A row whose file and place the collector already holds.
+    /// A row with the file and the place of a stored row.
     #[error("a second row of one place")]
     Double,
-    /// A row or an end mark of a file that is not expected, or a row whose place is not below 1,000,000.
+    /// A row or an end mark of an unexpected file, or a row whose place is not below 1,000,000.
     #[error("a file or a place that is not expected")]
     Stranger,
     /// A row whose place is not below the count of its file's end mark.
     #[error("a row past the end of its file")]
     AfterEnd,
-    /// An end mark of a file whose end mark the collector already holds.
+    /// An end mark of a file that has one already.
     #[error("a second end of one file")]
     SecondEnd,
-    /// An end mark whose count is above 1,000,000, or not above the place of a row of its file that the collector holds.
+    /// An end mark whose count is above 1,000,000, or not above the place of a stored row of its file.
     #[error("a file that ends before its last row")]
     BadCount,
     /// Memory was refused.

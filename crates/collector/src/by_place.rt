@@ -1,4 +1,4 @@
-//! Items of a file by their places.
+//! Items of a file in order of place.
 
 ghost use Rattle.std.specs.Prelude.{◌≡◌, [], OnOk, OnErr};
 ghost use Rattle.collector.specs.inner.WithAt.{with_at};

@@ -1,4 +1,4 @@
-//! What holds of lists of items, whatever they are: each contract is a law, and a call of it does nothing.
+//! Theorems about all lists of items. Each function does nothing; its contract states a theorem.
 
 ghost use Rattle.std.specs.Prelude.{◌≡◌, ℕ, ◌<◌, ◌++◌, ◌∷◌, List, Contains, IsPermutation, Some, None};
 ghost use Rattle.collector.specs.Complete.{IsComplete};
@@ -9,13 +9,13 @@ ghost use Rattle.rows.specs.declared.item.Item.{Item};
 ghost use Rattle.rows.specs.declared.item.Item.TheVariants.{Row, End};
 ghost use Rattle.rows.specs.declared.item.Valued.{Valued};
 
-/// Where a list of items is complete, no item of it is refused, in whatever order they are added.
+/// If a list of items is complete, none of its items is rejected, in any order of adding.
 pub fn complete_is_not_refused()
     ensures { (files : ℕ) (items order held rest : List Item) (item : Item) → IsComplete files items
         → IsPermutation items order → order ≡ held ++ item ∷ rest → fault files held item ≡ None }
 {}
 
-/// A complete list of items, in any order, lacks nothing.
+/// In a complete list of items nothing is missing, in any order.
 pub fn complete_lacks_nothing()
     ensures full { (files : ℕ) (items order : List Item) (file : ℕ) → IsComplete files items
         → IsPermutation items order → file < files → IsFull order file }

@@ -1,14 +1,14 @@
-//! Collects the rows of a model: valued rows and end marks, in any order of arrival, become one list for each file. Duplicates and items that
-//! do not belong are refused.
+//! Collects the rows of a model: valued rows and end marks, which arrive in any order, become one list for each file. Duplicates
+//! and items that do not belong are rejected.
 #![tactic(auto)]
 
 mod add_fault;
 mod by_place;
 mod collector;
+mod file_items;
 pub mod laws;
 mod missing;
 mod ordering;
-mod shelf;
 
 pub use add_fault::AddFault;
 pub use collector::Collector;

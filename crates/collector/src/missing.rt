@@ -1,9 +1,9 @@
-//! What a collector lacks.
+//! What is missing in a collector.
 
 use thiserror::Error;
 
-/// The first file that has no end mark, or that lacks a row below the count of its end mark; and the least place of that
-/// file of which no row is held.
+/// The first file that has no end mark, or no row for a place below the end mark's count; and the first place of that file without
+/// a row.
 #[derive(Clone, Copy, Debug, Error, PartialEq, Eq)]
 #[error("file {file} lacks place {place}")]
 pub struct Missing {

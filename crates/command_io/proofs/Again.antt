@@ -1,4 +1,4 @@
--- A text that stands before a cut comes back as the first piece.
+-- A text before a cut is returned as the first part.
 use Rattle.std.proofs.Common.{◌≡◌, ℕ, suc, ◌-◌, ◌<◌, ◌==◌, Bool, true, false, List, [], ◌∷◌, ◌++◌, length, map, filter, slice_index, if◌then◌else◌, refl, ap, ◌∙◌, arith}
 use Rattle.std.specs.List.{All, concat, onto_first, slice_split}
 use Rattle.std.proofs.lemmas.List.Elements.{All-cons, All-nil}
@@ -12,15 +12,15 @@ some_line b bs = by (ended_lines (b ∷ bs)) (lines_join (b ∷ bs)) where
   by [] e = absurd cc
   by (line ∷ lines) e = omega arith
 
--- the lines of a text that is ended, and then those of what follows
+-- the lines of a text that is empty or ends in LF, and then the lines of the text after it
 ended_lines-append : (text rest : List ℕ) → IsEnded text → ended_lines (text ++ rest) ≡ ended_lines text ++ ended_lines rest
 ended_lines-append [] rest ended = refl
 ended_lines-append (b ∷ []) rest ended = let feed : b ≡ 10 = ended (omega arith) in rw feed refl
 ended_lines-append (b ∷ c ∷ cs) rest ended =
     let last : length (b ∷ c ∷ cs) - 1 ≡ suc (length (c ∷ cs) - 1) = omega arith in
-    let behind : slice_index (b ∷ c ∷ cs) (length (b ∷ c ∷ cs) - 1) ≡ 10 = ended (omega arith) in
+    let following : slice_index (b ∷ c ∷ cs) (length (b ∷ c ∷ cs) - 1) ≡ 10 = ended (omega arith) in
     onto (b == 10) (ended_lines (c ∷ cs ++ rest)) (ended_lines (c ∷ cs)) (some_line c cs)
-    (ended_lines-append (c ∷ cs) rest (λ _. rw last at behind)) where
+    (ended_lines-append (c ∷ cs) rest (λ _. rw last at following)) where
       onto : (t : Bool) (all lines : List (List ℕ)) → 0 < length lines → all ≡ lines ++ ended_lines rest
           → (if t then (b ∷ []) ∷ all else onto_first b all) ≡ (if t then (b ∷ []) ∷ lines else onto_first b lines) ++ ended_lines rest
       onto true all lines some same = ap (λ ls. (b ∷ []) ∷ ls) same
@@ -42,7 +42,7 @@ pieces_again text cut rest ended uncut line e =
     ap (λ ls. map concat (slice_split is_cut ls)) lines ∙ ap (map concat) (slice_split_at is_cut (ended_lines text) cut (ended_lines rest) (none_pass is_cut (ended_lines text) uncut) e)
     ∙ ap (λ xs. xs ∷ pieces_of rest) (lines_join text)
 
--- a text that has no line that cuts is its only piece
+-- a text without a line that cuts is its only part
 pub uncut_whole : (text : List ℕ) → cuts_of text ≡ [] → pieces_of text ≡ text ∷ []
 uncut_whole text uncut =
     ap (map concat) (slice_split_none is_cut (ended_lines text) (none_pass is_cut (ended_lines text) uncut)) ∙ ap (λ xs. xs ∷ []) (lines_join text)

@@ -1,5 +1,6 @@
--- Why there is no plan, in other words, and how that ends the program.
-use Rattle.std.proofs.Common.{◌≡◌, ◌≤◌, ℕ, List, Option, length, arith, inl, inr, refl, sym, subst, Err, Ok}
+-- Why there is no plan, in other words, and the exit status for it.
+use Rattle.std.proofs.Common.{◌≡◌, ◌≤◌, ℕ, List, length, arith, inl, inr, refl, sym, subst, Err, Ok}
+use Rattle.devices.specs.feeds.FeedState.{FeedState}
 use Rattle.pit_model.specs.Planned.{planned}
 use Rattle.pit_model.specs.declared.plan_fault.PlanFault.{PlanFault}
 use Rattle.plan_parts.specs.declared.plan.Plan.{Plan}
@@ -18,28 +19,26 @@ use Rattle.command_io.specs.declared.refused.Refused.TheVariants as refused
 use Rattle.command_io.specs.declared.refused.source.Source.TheVariants as source
 
 -- a text of at most 1 MiB that states no plan
-pub faulty_plan : (text : List ℕ) (error : OrMemory PlanFault) (why : Refused) → length text ≤ 1048576
+pub invalid_plan : (text : List ℕ) (error : OrMemory PlanFault) (why : Refused) → length text ≤ 1048576
     → why ≡ plan_refused error → Gives {A = Plan} (λ plan. plan) (Err error) (planned text) → IsNoPlan text why
-faulty_plan text (or_memory.Fault fault) why short e stated = subst (IsNoPlan text) (sym e) (short, stated)
-faulty_plan text or_memory.OutOfMemory why short e stated = subst (IsNoPlan text) (sym e) refl
+invalid_plan text (or_memory.Fault fault) why short e stated = subst (IsNoPlan text) (sym e) (short, stated)
+invalid_plan text or_memory.OutOfMemory why short e stated = subst (IsNoPlan text) (sym e) refl
 
-module _ (left : Option (List ℕ)) (given given_now failures failures_now : ℕ) where
-  pub plan_unread : (why : Refused) → IsUnread source.Plan left 1048576 given given_now failures failures_now why
-      → IsNoPlanFile left given given_now failures failures_now why
+module _ (old new : FeedState) where
+  pub plan_unread : (why : Refused) → IsUnread source.Plan 1048576 old new why → IsNoPlanFile old new why
   plan_unread why unread = inl unread
 
-  pub plan_read : (why : Refused) (text : List ℕ) → IsReadWhole left given given_now failures failures_now text → IsNoPlan text why
-      → IsNoPlanFile left given given_now failures failures_now why
+  pub plan_read : (why : Refused) (text : List ℕ) → IsReadWhole old new text → IsNoPlan text why → IsNoPlanFile old new why
   plan_read why text is refused = inr (text, is, refused)
 
-  pub plan_stated : (plan : Plan) (text : List ℕ) → IsReadWhole left given given_now failures failures_now text
-      → length text ≤ 1048576 → planned text ≡ Ok plan → HasPlan left given given_now failures failures_now plan
+  pub plan_stated : (plan : Plan) (text : List ℕ) → IsReadWhole old new text → length text ≤ 1048576 → planned text ≡ Ok plan
+      → HasPlan old new plan
   plan_stated plan text is short states = record { text = text; read = is; short = short; states = states }
 
--- a text that gives no plan ends the program with 1, a line appended, or for want of memory with none
+-- a text that states no plan ends the program with status 1 and a line, or with status 4 and no line if memory is refused
 one_or_memory : (words old new : List ℕ) (status : ℕ) → EndsWith 1 words old new status → EndsRefused old new status
-one_or_memory words old new status (inl told) =
-    (λ none. omega (arith, told.0, none), λ other. (words, told.1), λ four. absurd (omega (arith, told.0, four)))
+one_or_memory words old new status (inl reported) =
+    (λ none. omega (arith, reported.0, none), λ other. (words, reported.1), λ four. absurd (omega (arith, reported.0, four)))
 one_or_memory words old new status (inr refused) =
     (λ none. omega (arith, refused.0, none), λ other. absurd (other refused.0), λ four. refused.1)
 
@@ -53,7 +52,7 @@ no_plan_ends text old new (Text fault) status none ends = absurd none
 no_plan_ends text old new (Run why) status none ends =
     subst (λ w. Ends (Run w) old new status → EndsRefused old new status) (sym none) (λ e. memory_ends old new status e) ends where
       memory_ends : (old new : List ℕ) (status : ℕ) → Ends (Run OutOfMemory) old new status → EndsRefused old new status
-      memory_ends old new status (inl told, unsaid) =
-          (λ zero. omega (arith, told.0, zero), λ other. absurd (other told.0), λ four. unsaid refl)
-      memory_ends old new status (inr told, unsaid) =
-          (λ zero. omega (arith, told.0, zero), λ other. absurd (other told.0), λ four. unsaid refl)
+      memory_ends old new status (inl reported, unsaid) =
+          (λ zero. omega (arith, reported.0, zero), λ other. absurd (other reported.0), λ four. unsaid refl)
+      memory_ends old new status (inr reported, unsaid) =
+          (λ zero. omega (arith, reported.0, zero), λ other. absurd (other reported.0), λ four. unsaid refl)

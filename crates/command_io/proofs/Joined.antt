@@ -1,4 +1,4 @@
--- Pieces and cuts in turn are the input.
+-- Parts and cuts in turn are the input.
 use Rattle.std.proofs.Common.{◌≡◌, ℕ, ◌==◌, Bool, true, false, List, [], ◌∷◌, ◌++◌, length, map, filter, refl, ap, ◌∙◌, append_assoc, arith}
 use Rattle.std.specs.List.{concat, onto_first, slice_split}
 use Rattle.std.proofs.lemmas.List.{length-map, length-drop}

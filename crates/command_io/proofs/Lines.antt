@@ -14,7 +14,7 @@ is_feed b = b == 10
 abbrev pub BeginsWithLine : List ℕ → ℕ → Type 0
 BeginsWithLine text n = ended_lines text ≡ take n text ∷ ended_lines (drop n text)
 
--- the first line is what stands before the first LF, with that LF
+-- the first line is the bytes up to the first LF, including it
 first_line : (b : ℕ) (bs : List ℕ) → BeginsWithLine (b ∷ bs) (suc (position_or_len is_feed (b ∷ bs)))
 first_line b [] = alone (b == 10) refl where
   alone : (t : Bool) → (b == 10) ≡ t → BeginsWithLine (b ∷ []) (suc (position_or_len is_feed (b ∷ [])))

@@ -1,4 +1,4 @@
--- What an output took after several puts, where it tells what it took.
+-- What an output took after several puts, if it reports its bytes.
 use Rattle.std.proofs.Common.{◌≡◌, ◌∙◌, ℕ, ◌+◌, ◌-◌, ◌≤◌, List, ◌++◌, length, take, drop, Option, Some, None, refl, sym, ap, subst, arith, append_assoc, append-nil, length-drop, take-add, take_all}
 use Rattle.devices.specs.Device.{added}
 

@@ -1,17 +1,17 @@
--- No piece has a line that cuts.
+-- No part has a line that cuts.
 use Rattle.std.proofs.Common.{◌≡◌, ℕ, ◌==◌, Bool, true, false, List, [], ◌∷◌, ◌++◌, map, filter, refl, ap, ◌∙◌}
 use Rattle.std.specs.List.{concat, onto_first, slice_split, All, AllByRecursion}
 use Rattle.std.proofs.lemmas.List.{append-nil}
 use Rattle.std.proofs.lemmas.List.Elements.{All-from_recursion}
 use Rattle.command_io.specs.Pieces.{ended_lines, is_cut, cuts_of, pieces_of}
 
--- these lines stand in a text one behind the other: each but the last is a line whatever follows it
+-- these lines are consecutive in a text: each except the last is a line, whatever follows it
 abbrev AreLines : List (List ℕ) → Type 0
 AreLines [] = Unit {0}
 AreLines (line ∷ []) = ended_lines line ≡ line ∷ []
 AreLines (line ∷ next ∷ lines) = ((rest : List ℕ) → ended_lines (line ++ rest) ≡ line ∷ ended_lines rest) × AreLines (next ∷ lines)
 
--- joined and cut into lines, they are the same again
+-- joined and cut into lines, they are the same lines
 lines_again : (lines : List (List ℕ)) → AreLines lines → ended_lines (concat lines) ≡ lines
 lines_again [] are = refl
 lines_again (line ∷ []) are = rw (append-nil line) are
@@ -33,7 +33,7 @@ lines_are (b ∷ bs) = by_test (b == 10) refl (lines_are bs) where
   by_test true e are = rw e (fed (ended_lines bs) e are)
   by_test false e are = rw e (onto (ended_lines bs) e are)
 
--- a part of lines that are split stands in the text as they do, and has no line that passes
+-- a group of lines between those that pass is consecutive in the text, and none of its lines passes
 record IsPart (p : List ℕ → Bool) (part : List (List ℕ)) : Type 0 where
   lines : AreLines part
   uncut : filter p part ≡ []

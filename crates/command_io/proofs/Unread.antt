@@ -1,4 +1,4 @@
--- A feed that was not read whole, as the program refuses it.
+-- A feed that was not read completely, as the program reports it.
 use Rattle.std.proofs.Common.{◌≡◌, ◌∙◌, Err, refl, sym}
 use Rattle.std.specs.Prelude.{Result}
 use Rattle.devices.specs.declared.feeds.slurp.SlurpFault.{SlurpFault}
@@ -8,7 +8,7 @@ use Rattle.command_io.specs.declared.refused.Refused.{Refused}
 use Rattle.command_io.specs.declared.refused.Refused.TheVariants.{FeedFailed}
 use Rattle.command_io.specs.declared.refused.source.Source.{Source}
 
--- it is told as failed only where it failed
+-- it is reported as failed only if it failed
 pub as_failed : {B : Type 0} (source : Source) (fault : SlurpFault) (why : Refused) (answer : Result B Refused) → why ≡ unread source fault
     → answer ≡ Err why → answer ≡ Err (FeedFailed source) → fault ≡ slurp.FeedFailed
 as_failed source slurp.FeedFailed why answer e was is = refl

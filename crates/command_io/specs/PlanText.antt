@@ -1,4 +1,4 @@
--- Why a text gives no plan.
+-- Why a text states no plan.
 use Rattle.std.specs.Prelude.{◌≡◌, ℕ, ◌<◌, ◌≤◌, List, length, Err}
 use Rattle.pit_model.specs.Planned.{planned}
 use Rattle.refusals.specs.declared.refusal.Refusal.TheVariants.{OutOfMemory}
@@ -7,7 +7,7 @@ use Rattle.command_io.specs.declared.refused.Refused.TheVariants.{NotUtf8, FeedF
 use Rattle.command_io.specs.declared.refused.source.Source.TheVariants as source
 use Rattle.plan_parts.specs.declared.ranges.TheConstants.{MAX_PLAN_BYTES}
 
--- it has more than 1,048,576 bytes; or it is no longer, and states no plan; or memory was refused
+-- the text has more than 1,048,576 bytes; or at most that many, and it states no plan; or memory was refused
 abbrev pub IsNoPlan : List ℕ → Refused → Type 0
 IsNoPlan text NotUtf8 = ⊥
 IsNoPlan text (FeedFailed which) = ⊥

@@ -1,5 +1,5 @@
--- Why the program refuses: the words of its line, and the status that it ends with.
-use Rattle.std.specs.Prelude.{◌≡◌, ℕ, ◌++◌, List, Option, codes}
+-- The program's errors: the words of the error's line, and the exit status.
+use Rattle.std.specs.Prelude.{◌≡◌, ℕ, ◌++◌, List, codes}
 use Rattle.std.specs.Fmt.{decimal}
 use Rattle.devices.specs.declared.feeds.slurp.SlurpFault.{SlurpFault}
 use Rattle.devices.specs.declared.feeds.slurp.SlurpFault.TheVariants as slurp
@@ -11,6 +11,7 @@ use Rattle.pit_model.specs.declared.plan_fault.PlanFault.{PlanFault}
 use Rattle.pit_units.specs.declared.or_memory.OrMemory.{OrMemory}
 use Rattle.pit_units.specs.declared.or_memory.OrMemory.TheVariants as or_memory
 use Rattle.text_lines.specs.FaultText.{file_ending, text_fault_text}
+use Rattle.devices.specs.feeds.FeedState.{FeedState}
 use Rattle.devices.specs.feeds.ReadWhole.{FailsAsFed}
 use Rattle.text_lines.specs.declared.text_fault.TextFault.{TextFault}
 use Rattle.command_io.specs.declared.refused.Refused.{Refused}
@@ -18,14 +19,14 @@ use Rattle.command_io.specs.declared.refused.Refused.TheVariants.{NotUtf8, FeedF
 use Rattle.command_io.specs.declared.refused.source.Source.{Source}
 use Rattle.command_io.specs.declared.refused.source.Source.TheVariants as source
 
--- a zone file by its number, a file of an instance by the ending of its name
+-- a zone file by its number, a file of an instance by its extension
 abbrev pub source_text : Source → List ℕ
 source_text source.Input = codes "input"
 source_text source.Plan = codes "plan"
 source_text (source.Zone file) = codes "file " ++ decimal file
 source_text (source.Text file) = file_ending file
 
--- a source and what is wrong with it; a faulty record or line, or a refused run, by its own words
+-- a source and its error; for an invalid record or line, or a failed run, that error's own words
 abbrev pub refused_text : Refused → List ℕ
 refused_text NotUtf8 = codes "command line: NotUtf8"
 refused_text (FeedFailed source) = source_text source ++ codes ": FeedFailed"
@@ -34,7 +35,7 @@ refused_text (Plan fault) = plan_fault_text fault
 refused_text (Text fault) = text_fault_text fault
 refused_text (Run refusal) = refusal_text refusal
 
--- 1 for a refused model, 2 for settings, 3 for a feed or a sink that failed, 4 where a thread or memory was refused
+-- 1 for an invalid model, 2 for settings, 3 for a feed or a sink that failed, 4 if a thread or memory was refused
 abbrev pub run_status : Refusal → ℕ
 run_status (refusal.Settings kind) = 2
 run_status refusal.NoThread = 4
@@ -45,7 +46,7 @@ run_status (refusal.Same first again) = 1
 run_status (refusal.SinkFailed which) = 3
 run_status refusal.OutOfMemory = 4
 
--- the same of the whole program: 1 also for a refused plan or text, 2 for words, 3 for a source that cannot be read
+-- the same for the whole program: also 1 for an invalid plan or text, 2 for arguments, 3 for a source that cannot be read
 abbrev pub status_of : Refused → ℕ
 status_of NotUtf8 = 2
 status_of (FeedFailed source) = 3
@@ -69,8 +70,6 @@ abbrev pub text_refused : OrMemory TextFault → Refused
 text_refused (or_memory.Fault fault) = Text fault
 text_refused or_memory.OutOfMemory = Run refusal.OutOfMemory
 
--- this source was not read: it refused a pull, or gave a byte more than this limit; or memory was refused. Of what it had left, where it
--- tells that, and of how many bytes it gave and how many pulls it refused, before and now
-abbrev pub IsUnread : Source → Option (List ℕ) → ℕ → (given given_now failures failures_now : ℕ) → Refused → Type 0
-IsUnread source left limit given given_now failures failures_now refused =
-    (fault : SlurpFault) × FailsAsFed left limit given given_now failures failures_now fault × (refused ≡ unread source fault)
+-- this source was not read: it refused a pull, or gave a byte more than this limit; or memory was refused
+abbrev pub IsUnread : Source → (limit : ℕ) → (old new : FeedState) → Refused → Type 0
+IsUnread source limit old new refused = (fault : SlurpFault) × FailsAsFed limit old new fault × (refused ≡ unread source fault)

@@ -1,7 +1,7 @@
-//! A source, whole.
+//! Reading a source completely.
 
 ghost use Rattle.std.specs.Prelude.{◌≢◌, ◌≤◌, length, Err, IsTrue, IfOk, IfErr};
-ghost use Rattle.devices.specs.declared.feeds.slurp.TheConstants.{GREATEST_LIMIT};
+ghost use Rattle.devices.specs.declared.feeds.slurp.TheConstants.{LARGEST_LIMIT};
 ghost use Rattle.devices.specs.feeds.ReadWhole.{IsReadWhole};
 ghost use Rattle.command_io.specs.Refused.{IsUnread};
 
@@ -11,7 +11,7 @@ use devices::feeds::feed::Feed;
 use devices::feeds::slurp::slurp;
 use std::alloc::Global;
 
-/// All bytes of a feed, which is this source, if they are at most `limit`. It is asked for no more than one byte past the limit.
+/// Returns all bytes of a feed, if there are at most `limit`. The feed is the source `source`. Requests at most `limit` + 1 bytes.
 ///
 /// # Errors
 ///
@@ -24,17 +24,16 @@ pub fn read_source<F: Feed>(
     source: Source,
     limit: u64,
 ) -> Result<Vec<u8>, Refused>
-    requires { limit ≤ GREATEST_LIMIT }
+    requires { limit ≤ LARGEST_LIMIT }
 
-    // What an answer holds.
-    ensures read { IfOk result (λ text. IsReadWhole (F.left feed.old) (F.given feed.old)
-        (F.given feed.new) (F.failures feed.old) (F.failures feed.new) text.items) }
+    // The bytes of a result.
+    ensures read { IfOk result (λ text. IsReadWhole (F.state feed.old) (F.state feed.new)
+        text.items) }
     ensures short { IfOk result (λ text. length text.items ≤ limit) }
 
-    // When each refusal comes.
-    ensures refused { IfErr result (IsUnread source (F.left feed.old) limit (F.given feed.old)
-        (F.given feed.new) (F.failures feed.old) (F.failures feed.new)) }
-    ensures sure { IsTrue (F.is_sure feed.old) → result ≢ Err (Refused.FeedFailed source) }
+    // When each error occurs.
+    ensures refused { IfErr result (IsUnread source limit (F.state feed.old) (F.state feed.new)) }
+    ensures sure { IsTrue (F.state feed.old).is_sure → result ≢ Err (Refused.FeedFailed source) }
 {
     match slurp(alloc, feed, limit) {
         Ok(text) => Ok(text),

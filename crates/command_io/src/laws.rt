@@ -1,8 +1,8 @@
-//! Laws of the cutting of an input. Each of these functions does nothing: what holds of every input is its contract.
+//! Theorems about how an input is cut. Each function does nothing; its contract states a theorem.
 ghost use Rattle.std.specs.Prelude.{◌≡◌, [], ◌∷◌, ◌++◌, length, codes, All};
 ghost use Rattle.command_io.specs.Pieces.{cuts_of, pieces_of, plan_piece, zone_pieces, woven, IsEnded};
 
-/// The input is its plan, and then each cut with the zone file behind it.
+/// An input is its plan, and then each cut with the zone file after it.
 #[tactic(auto, using(crate::proofs::Walk::pieces_first, crate::proofs::Joined::zone_for_each_cut, crate::proofs::Joined::pieces_woven))]
 pub fn pieces_join_to_the_input(input: &[u8])
     ensures first { pieces_of input.now ≡ plan_piece input.now ∷ zone_pieces input.now }
@@ -10,21 +10,21 @@ pub fn pieces_join_to_the_input(input: &[u8])
     ensures whole { woven (pieces_of input.now) (cuts_of input.now) ≡ input.now }
 {}
 
-/// No piece has a line that cuts.
+/// No part has a line that cuts.
 #[tactic(auto, using(crate::proofs::Uncut::pieces_uncut))]
 pub fn pieces_have_no_cut(input: &[u8])
     ensures { All (λ piece. cuts_of piece ≡ []) (pieces_of input.now) }
 {}
 
-/// A text that has no line that cuts is its only piece.
+/// A text without a line that cuts is its only part.
 #[tactic(auto, using(crate::proofs::Again::uncut_whole))]
 pub fn uncut_text_is_the_plan(text: &[u8])
     requires { cuts_of text.now ≡ [] }
     ensures { pieces_of text.now ≡ text.now ∷ [] }
 {}
 
-/// A text without a line that cuts, which is ended and stands before a cut, is the first piece; the others are the
-/// pieces of what stands behind the cut. So texts that are joined by cuts come back as the pieces.
+/// If a text has no line that cuts, is empty or ends in LF, and precedes a cut, it is the first part; the bytes after the cut have
+/// the other parts. So texts that are joined by cuts are returned as the parts.
 pub fn joined_text_comes_back(text: &[u8], rest: &[u8])
     requires uncut { cuts_of text.now ≡ [] }
     requires ended { IsEnded text.now }

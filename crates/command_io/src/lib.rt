@@ -1,6 +1,7 @@
-//! The edge of `pitc`: its words, streams and files, the texts that it prints, the line of a refusal and the statuses.
+//! The edge of `pitc`: its arguments, streams and files, the files that it prints, error lines and exit statuses.
 #![tactic(auto)]
 
+pub mod arguments;
 pub mod input;
 pub mod laws;
 pub mod pieces;
@@ -8,6 +9,5 @@ pub mod plan_file;
 pub mod plan_text;
 pub mod printing;
 pub mod refused;
-pub mod words;
 pub mod write_whole;
 pub mod zone_feeds;

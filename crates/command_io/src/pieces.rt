@@ -1,4 +1,4 @@
-//! The cutting of the input of the pipe form into a plan and zone files, at the lines `--`.
+//! The cutting of the pipe form's input into a plan and zone files, at the lines `--`.
 ghost use Rattle.std.specs.Prelude.{◌≡◌, ◌<◌, ◌≤◌, ◌==◌, [], ◌∷◌, length, take, drop, position, Ok, None, IfOk, IfSome, MatchOption};
 ghost use Rattle.command_io.specs.Pieces.{ended_lines, is_cut, pieces_of, plan_piece, zone_pieces};
 
@@ -7,17 +7,17 @@ use plan_parts::listed::Listed;
 use std::alloc::{AllocError, Global};
 use std::marker::Model;
 
-/// The bytes of one text of the pipe's input, such as one zone file.
+/// The bytes of one text of the pipe form's input, such as a zone file.
 pub type Piece = Listed<u8>;
 
-/// What an input is cut into: the plan, and the zone files in order.
+/// The parts of an input: the plan, and the zone files in order.
 #[derive(Drop)]
 pub struct Pieces {
     plan: Piece,
     zones: Vec<Piece>,
 }
 
-/// The pieces are seen as the bytes of the plan, and of each zone file.
+/// Contracts see the bytes of the plan and of each zone file.
 impl Model for Pieces {
     ghost use Rattle.command_io.specs.Pieces.{PiecesView};
 
@@ -27,14 +27,14 @@ impl Model for Pieces {
 }
 
 impl Pieces {
-    /// The first piece, which is always there. It takes no memory.
+    /// Returns the first part, which always exists. Allocates no memory.
     pub fn plan(&self) -> &[u8]
         ensures { result.now ≡ self.now.plan }
     {
         self.plan.as_slice()
     }
 
-    /// The further pieces, none where nothing was cut. It takes no memory.
+    /// Returns the other parts; there are none if nothing was cut. Allocates no memory.
     pub fn zones(&self) -> &[Piece]
         ensures { result.now ≡ self.now.zones }
     {
@@ -42,9 +42,8 @@ impl Pieces {
     }
 }
 
-/// Cuts an input at each of its lines that is `--`, ended by LF or CR LF, or by the end of the input. What stands
-/// before the first such line is the plan, and behind each of them begins a zone file. Fails only where memory is
-/// refused.
+/// Cuts an input at each line that is `--`, ended by LF, by CR LF, or by the end of the input. The plan is before the first such
+/// line; a zone file follows each of them. Fails only if memory is refused.
 pub fn cut(alloc: Global, input: &[u8]) -> Result<Pieces, AllocError>
     ensures plan { IfOk result (λ pieces. pieces.plan ≡ plan_piece input.now) }
     ensures zones { IfOk result (λ pieces. pieces.zones ≡ zone_pieces input.now) }
@@ -55,8 +54,8 @@ pub fn cut(alloc: Global, input: &[u8]) -> Result<Pieces, AllocError>
     }
 }
 
-/// Cuts an input as `cut` does, where that makes at most `most` zone files. Where it would make more the answer is
-/// `None`: so no more than `most` are ever held. Fails only where memory is refused.
+/// Cuts an input like `cut` if that makes at most `most` zone files. Else returns `None`, so never more than `most` are stored.
+/// Fails only if memory is refused.
 pub fn cut_at_most(alloc: Global, input: &[u8], most: usize) -> Result<Option<Pieces>, AllocError>
     ensures plan { IfOk result (λ found. IfSome found (λ pieces. pieces.plan ≡ plan_piece input.now)) }
     ensures zones { IfOk result (λ found. IfSome found
@@ -65,35 +64,35 @@ pub fn cut_at_most(alloc: Global, input: &[u8], most: usize) -> Result<Option<Pi
     ensures more { result ≡ Ok None → most < length (zone_pieces input.now) }
     ensures bytes { result ≡ Ok None → most < length input.now }
 {
-    let (plan, mut behind) = first_piece(input);
+    let (plan, mut following) = first_piece(input);
     let plan = copied(alloc, plan)?;
     let mut zones = Vec::new(alloc);
-    while let Some(rest) = behind {
+    while let Some(rest) = following {
         if zones.len() == most {
             return Ok(None);
         }
         let (zone, next) = first_piece(rest);
         zones.push(copied(alloc, zone)?)?;
-        behind = next;
+        following = next;
     }
     Ok(Some(Pieces { plan, zones }))
 }
 
-/// The plan of an input, as a part of the input itself. `cut` copies it.
+/// Returns the plan of an input as a slice of the input. `cut` copies it.
 pub fn plan_piece(input: &[u8]) -> &[u8]
     ensures { result.now ≡ plan_piece input.now }
 {
     first_piece(input).0
 }
 
-// A piece of its own with these bytes.
+// Copies these bytes to a part.
 fn copied(alloc: Global, bytes: &[u8]) -> Result<Piece, AllocError>
     ensures { IfOk result (λ piece. piece ≡ bytes.now) }
 {
     Ok(Piece::new(Vec::from_slice(alloc, bytes)?))
 }
 
-// The first piece of a text, and what stands behind the cut that ends it, if there is one.
+// Returns the first part of a text, and the bytes after the cut that ends it, if there is one.
 fn first_piece(text: &[u8]) -> (&[u8], Option<&[u8]>)
     ensures first { result.0.now ≡ plan_piece text.now }
     ensures further { MatchOption result.1 (zone_pieces text.now ≡ [])
@@ -111,7 +110,7 @@ fn first_piece(text: &[u8]) -> (&[u8], Option<&[u8]>)
     (text, None)
 }
 
-// The length of the first line, with the LF that ends it.
+// Returns the length of the first line, with its LF.
 #[tactic(auto, using(crate::proofs::Lines::line_to_feed, crate::proofs::Lines::line_to_end))]
 fn first_line_len(text: &[u8]) -> usize
     requires { 0 < length text.now }
@@ -125,14 +124,14 @@ fn first_line_len(text: &[u8]) -> usize
     }
 }
 
-// The place of the first LF.
+// Returns the place of the first LF.
 fn line_feed_place(text: &[u8]) -> Option<usize>
     ensures { result ≡ position (λ b. b == 10) text.now }
 {
     memchr(b'\n', text)
 }
 
-// Whether a line, with the LF that ends it, cuts the input.
+// Returns whether a line, with its LF, cuts the input.
 fn is_cut_line(line: &[u8]) -> bool
     ensures { result ≡ is_cut line.now }
 {

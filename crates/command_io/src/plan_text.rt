@@ -12,14 +12,14 @@ use pit_model::ranges::MAX_PLAN_BYTES;
 use pit_model::read_plan;
 use std::alloc::Global;
 
-/// The plan that a text states.
+/// Returns the plan that a text states.
 ///
 /// # Errors
 ///
 /// - `TooLong`: the text has more than 1,048,576 bytes.
-/// - `Plan`: it has a faulty record.
+/// - `Plan`: the text states no plan.
 /// - `Run`: memory was refused.
-#[tactic(auto, using(crate::proofs::Ends::faulty_plan))]
+#[tactic(auto, using(crate::proofs::Ends::invalid_plan))]
 pub fn stated_plan(alloc: Global, text: &[u8]) -> Result<Plan, Refused>
     ensures plan { IfOk result (λ plan. (length text.now ≤ MAX_PLAN_BYTES)
         × (planned text.now ≡ Ok plan)) }

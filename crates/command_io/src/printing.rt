@@ -1,4 +1,4 @@
-//! How the texts of an instance are printed into one vector.
+//! The printing of an instance's files into one vector.
 
 ghost use Rattle.std.specs.Prelude.{◌≡◌, ◌++◌, length, take, OnErr, OnOk};
 ghost use Rattle.mine_instance.specs.Valid.{IsValid};
@@ -17,7 +17,8 @@ use precedence::PredLists;
 use std::alloc::{AllocError, Global};
 use std::mem::replace;
 
-/// Appends the texts of an instance, each under its section line. Fails only where memory is refused, and then `out` is as it was.
+/// Appends the files of an instance to `out`, each after its section line. Fails only if memory is refused; then `out` is
+/// unchanged.
 pub fn print<P: PredLists, C: CoefList, V: ValueList>(
     alloc: Global,
     instance: &Instance<P, C, V>,
@@ -39,7 +40,7 @@ pub fn print<P: PredLists, C: CoefList, V: ValueList>(
     Ok(())
 }
 
-// The same behind what a sink holds. Where it is refused, what stood before stands at the front.
+// The same into a sink. After an error the bytes before are still a prefix.
 fn print_sections<P: PredLists, C: CoefList, V: ValueList>(
     alloc: Global,
     instance: &Instance<P, C, V>,
@@ -56,7 +57,7 @@ fn print_sections<P: PredLists, C: CoefList, V: ValueList>(
     Ok(())
 }
 
-// The same of the text of this name alone.
+// The same for the file with this name alone.
 fn print_section<P: PredLists, C: CoefList, V: ValueList>(
     alloc: Global,
     name: TextName,
@@ -67,7 +68,7 @@ fn print_section<P: PredLists, C: CoefList, V: ValueList>(
     ensures ok { OnOk result (sink.new.before ++ sink.new.taken
         ≡ (sink.old.before ++ sink.old.taken)
         ++ section (ending_of name) (text_named name instance.now)) }
-    ensures front { take (length sink.old.before) sink.new.before ≡ sink.old.before }
+    ensures prefix { take (length sink.old.before) sink.new.before ≡ sink.old.before }
 {
     let line = format!(in alloc; "== {name}\n")?;
     sink.section(line.as_bytes())?;

@@ -1,4 +1,4 @@
-//! Why the program refuses: the words of its line, and the status that it ends with.
+//! The program's errors: the words of the error's line, and the exit status.
 
 ghost use Rattle.std.specs.Prelude.{◌≡◌};
 ghost use Rattle.refusals.specs.declared.refusal.Refusal.TheVariants.{OutOfMemory};
@@ -20,25 +20,25 @@ pub mod fault_line;
 pub mod source;
 pub mod status;
 
-/// Why the program refuses. It is shown as its line, without the program's name.
+/// An error of the program. Its text is its line without the program's name.
 #[derive(Clone, Copy, Debug, Error, PartialEq, Eq)]
 pub enum Refused {
-    /// A word of the command line is not UTF-8.
+    /// An argument of the command line is not UTF-8.
     NotUtf8,
-    /// The source cannot be opened, or cannot be read.
+    /// The source cannot be opened or read.
     FeedFailed(Source),
-    /// The source has more bytes than it may have.
+    /// The source has more bytes than its limit.
     TooLong(Source),
-    /// A plan has a faulty record.
+    /// A plan has an invalid record, or a required part of it is missing.
     Plan(PlanFault),
-    /// A text of an instance has a faulty line.
+    /// A file of an instance has an invalid line, or something is missing at its end.
     Text(TextFault),
-    /// The run is refused. Its `OutOfMemory` is that of the whole program.
+    /// The run failed. Its `OutOfMemory` is used for the whole program.
     Run(Refusal),
 }
 
 impl Refused {
-    /// Why the program refuses a source that was not read whole.
+    /// Returns the error for a source that was not read completely.
     pub fn unread(source: Source, fault: SlurpFault) -> Refused
         ensures { result ≡ unread source fault }
     {
@@ -49,7 +49,7 @@ impl Refused {
         }
     }
 
-    /// The status that the program ends with.
+    /// Returns the exit status of the program.
     pub fn status(&self) -> u8
         ensures { result ≡ status_of self.now }
     {

@@ -1,15 +1,15 @@
-//! Writing to an output, whole.
+//! Writing all bytes to an output.
 
 ghost use Rattle.std.specs.Prelude.{OnErr, OnOk};
 ghost use Rattle.command_io.specs.WriteWhole.{TakesAll, TakesLess};
 
 use devices::sinks::sink::{Sink, SinkFault};
 
-/// Puts all these bytes to an output that goes on.
+/// Writes all these bytes to an output, after those that it has.
 ///
 /// # Errors
 ///
-/// It refused a call. It took a front of the bytes, and not all of them.
+/// The output refused a call. It took a prefix of the bytes, but not all.
 #[tactic(auto, using(crate::proofs::Outputs::took_none, crate::proofs::Outputs::took_all))]
 pub fn write_whole<S: Sink>(output: &mut S, bytes: &[u8]) -> Result<(), SinkFault>
     ensures whole { OnOk result (TakesAll bytes.now (S.state output.old) (S.state output.new)) }

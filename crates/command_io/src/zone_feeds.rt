@@ -1,6 +1,7 @@
 //! The feeds of the zone files that a compile opens.
 
 ghost use Rattle.std.specs.Prelude.{map, string_bytes, IfOk, IfErr};
+ghost use Rattle.devices.specs.feeds.FeedState.{all_remaining};
 ghost use Rattle.command_io.specs.ZoneFeeds.{AreNotOpened, AreOpened};
 
 use crate::refused::Refused;
@@ -8,11 +9,11 @@ use crate::refused::source::Source;
 use devices::files::opener::Opener;
 use std::alloc::Global;
 
-/// The feeds of the files at these paths, opened in order.
+/// Opens the files at these paths in order, and returns their feeds.
 ///
 /// # Errors
 ///
-/// - `FeedFailed`: the first path that cannot be opened, by its number, from 0. No further one is opened.
+/// - `FeedFailed`: a file cannot be opened; with the number of the first one, from 0. Opens no later file.
 /// - `Run`: memory was refused.
 pub fn open_all<O: Opener>(
     alloc: Global,
@@ -20,7 +21,7 @@ pub fn open_all<O: Opener>(
     files: &mut O,
 ) -> Result<Vec<O::Opened>, Refused>
     ensures opened { IfOk result (λ feeds. AreOpened (O.opened files.old) (O.opened files.new)
-        (map string_bytes paths.now) (map O.Opened.left feeds.items)) }
+        (map string_bytes paths.now) (all_remaining O.Opened.state feeds.items)) }
     ensures refused { IfErr result (AreNotOpened (O.opened files.old) (O.opened files.new)
         (map string_bytes paths.now)) }
 {

@@ -1,4 +1,4 @@
--- A command that grows by its arguments and its subcommands.
+-- A command that gets its arguments and subcommands one by one.
 use Rattle.std.proofs.Common.{◌≡◌, ◌∙◌, ◌||◌, ap₂, false}
 use Rattle.clap.specs.Words.{AddsArg, AddsSubcommand, App, Rule, app_of, rule_of, with_rule, with_subcommand}
 use Rattle.clap.specs.declared.builder.arg.Arg.{Arg}
@@ -12,9 +12,9 @@ pub grown : (old new : Command) (arg : Arg) (app : App) (rule : Rule) → IsComm
 grown old new arg app rule like is local adds =
     (adds.shape local ∙ ap₂ with_rule like.0 is, adds.globals ∙ ap₂ (λ a b. a || b) like.1 local)
 
-pub has_subcommand : (old sub new : Command) (app words : App) → app_of old ≡ app → IsCommandOf words sub → AddsSubcommand old sub new
-    → app_of new ≡ with_subcommand app words.top
-has_subcommand old sub new app words like is adds = adds.shape is.1 ∙ ap₂ (λ a w. with_subcommand a w.top) like is.0
+pub has_subcommand : (old sub new : Command) (app arguments : App) → app_of old ≡ app → IsCommandOf arguments sub → AddsSubcommand old sub new
+    → app_of new ≡ with_subcommand app arguments.top
+has_subcommand old sub new app arguments like is adds = adds.shape is.1 ∙ ap₂ (λ a w. with_subcommand a w.top) like is.0
 
 pub has_both : (top compile check one new : Command) → app_of top ≡ top_words → IsCommandOf compile_words compile
     → IsCommandOf check_words check

@@ -1,12 +1,12 @@
--- From what clap found in the words to the job that they state, or to none.
+-- From clap's matches to the job that the arguments state, or to none.
 use Rattle.std.proofs.Common.{◌≡◌, ◌∙◌, List, [], Option, Some, None, ap, arith, codes, refl, slice_index, string_bytes, subst, sym, unwrap_or}
 use Rattle.clap.specs.Words.{Row, Text, first_of}
-use Rattle.command_lines.specs.CommandLine.{Finds, FindsWords}
+use Rattle.command_lines.specs.CommandLine.{Finds, FindsArguments}
 use Rattle.command_lines.specs.declared.job.Job.{Job}
 use Rattle.command_lines.specs.declared.job.Job.TheVariants.{Check, Compile}
-use Rattle.command_lines.specs.declared.job.RunWords.{RunWords}
+use Rattle.command_lines.specs.declared.job.RunArguments.{RunArguments}
 
--- the name and the rows of what was found
+-- the name and the rows of the match
 abbrev name_in : Option (Text × List Row) → Text
 name_in found = (unwrap_or found ([], [])).0
 
@@ -19,7 +19,7 @@ apart found rows other is was =
     let bad : 104 ≡ 111 = ap (λ f. slice_index (name_in f) 1) (sym is ∙ was) in
     absurd (omega (arith, bad))
 
--- rows with no BASE state no job of `check`
+-- rows without BASE state no job of `check`
 pub no_base : (rows : List Row) → first_of (codes "base") rows ≡ None → (job : Job) → Finds (Some (codes "check", rows)) job → ⊥
 no_base rows none (Check base) found =
     let same : rows ≡ found.rows = ap rows_in found.is_check in
@@ -27,10 +27,10 @@ no_base rows none (Check base) found =
     cc
 no_base rows none (Compile plan out settings zones) found = apart _ rows found.rows refl found.is_compile
 
--- and so of `compile`, where they have no values of a run
-pub no_compile : (rows : List Row) → ((run : RunWords) → FindsWords rows run → ⊥) → (job : Job) → Finds (Some (codes "compile", rows)) job → ⊥
+-- nor of `compile`, if values of a run are missing
+pub no_compile : (rows : List Row) → ((run : RunArguments) → FindsArguments rows run → ⊥) → (job : Job) → Finds (Some (codes "compile", rows)) job → ⊥
 no_compile rows none (Check base) found = apart _ found.rows rows found.is_check refl
 no_compile rows none (Compile plan out settings zones) found =
     let same : found.rows ≡ rows = ap rows_in (sym found.is_compile) in
-    let run : RunWords = record { plan = plan; out = out; settings = settings; zones = zones } in
-    none run (subst (λ r. FindsWords r run) same found.has_words)
+    let run : RunArguments = record { plan = plan; out = out; settings = settings; zones = zones } in
+    none run (subst (λ r. FindsArguments r run) same found.has_arguments)

@@ -1,4 +1,4 @@
--- What clap's getter of a number says, by the rows.
+-- What clap's getter of a number guarantees, by the rows.
 use Rattle.std.proofs.Common.{◌≡◌, ◌∙◌, ◌⊎◌, ◌<◌, ◌≤◌, ◌^◌, ℕ, List, Option, Some, None, Result, Ok, Err, ap, arith, inl, inr, refl, subst, sym, unwrap_or}
 use Rattle.std.specs.Str.Parse.{IsNumeral, ParsesUnsigned, digits_value, without_leading_plus}
 use Rattle.clap.proofs.WalkLemmas.{one_text-rows}
@@ -11,7 +11,7 @@ use Rattle.command_lines.specs.CommandLine.{FindsNumber, IsNumberOf}
 abbrev pub HasNumber : List Row → Text → ℕ → Type 0
 HasNumber rows id n = (text : Text) × (one_of id rows ≡ Some text) × IsNumberOf text n
 
--- the number that was read is the argument's; or the argument has none in range
+-- the number that was read is the argument's; or the argument has no number in range
 abbrev pub ReadsNumber : List Row → Text → ℕ → Option ℕ → Type 0
 ReadsNumber rows id most (Some n) = HasNumber rows id n
 ReadsNumber rows id most None = (n : ℕ) → FindsNumber rows id most n → ⊥
@@ -43,7 +43,7 @@ reads_number {E} G f id most r fits only none value = go (one_text f id) refl r 
         let h = value t e in
         absurd (only t (Err h.0) h.1 (numeral, small))
 
--- an argument with a number out of range has none in range
+-- an argument with a number out of range has no number in range
 pub out_of_range : (rows : List Row) (id : Text) (most n : ℕ) → HasNumber rows id n → (n < 1) ⊎ ((1 ≤ n) × (most < n)) → (m : ℕ)
     → FindsNumber rows id most m → ⊥
 out_of_range rows id most n has out m found =

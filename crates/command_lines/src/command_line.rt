@@ -1,4 +1,4 @@
-//! The command line that the program takes.
+//! The command line of the program.
 
 ghost use Rattle.std.specs.Prelude.{◌≡◌, false, IfOk};
 ghost use Rattle.clap.specs.Words.{app_of, new_app, rule_of};
@@ -9,7 +9,7 @@ use clap::{Arg, Command, value_parser};
 use plan_parts::ranges::{MAX_CAPACITY, MAX_VALUERS};
 use std::alloc::{AllocError, Global};
 
-/// The version, which the newest entry of CHANGELOG.md has too.
+/// The version, which equals the newest version in CHANGELOG.md.
 pub(crate) const VERSION: &str = "0.2.0";
 
 const ABOUT: &str = "Turns the block models of an open pit mine into a MineLib instance.
@@ -54,7 +54,8 @@ const AFTER_CHECK: &str = "Example:
 
 It cannot tell whether the files are those of one run: only the status 0 of that run says so.";
 
-/// The program's command line. Without arguments the program reads a model from standard input.
+/// Makes the program's command line. Without arguments the program reads a model from standard input. Fails only if memory is
+/// refused.
 pub fn command_line<'a>(alloc: Global) -> Result<Command<'a>, AllocError>
     ensures { IfOk result (λ command. app_of command ≡ program) }
 {
@@ -63,7 +64,7 @@ pub fn command_line<'a>(alloc: Global) -> Result<Command<'a>, AllocError>
     top_command(alloc).subcommand(compile)?.subcommand(check)
 }
 
-// The program itself, without its subcommands.
+// Makes the program itself, without its subcommands.
 #[tactic(auto, unfolding(crate::specs::CommandLine::top_words))]
 fn top_command<'a>(alloc: Global) -> Command<'a>
     ensures { app_of result ≡ top_words }
@@ -96,7 +97,7 @@ fn compile_command<'a>(alloc: Global) -> Result<Command<'a>, AllocError>
     .arg(zones(alloc))
 }
 
-/// The word `--plan P`.
+/// Makes the option `--plan P`.
 #[tactic(auto, unfolding(crate::specs::CommandLine::plan_word))]
 pub(crate) fn plan_option<'a>(alloc: Global) -> Arg<'a>
     ensures rule { rule_of result ≡ plan_word }
@@ -109,7 +110,7 @@ pub(crate) fn plan_option<'a>(alloc: Global) -> Arg<'a>
         .help("The file of the plan")
 }
 
-/// The word `--out`, with the name and the help of its value.
+/// Makes the option `--out`, with the name and the help of its value.
 #[tactic(auto, unfolding(crate::specs::CommandLine::out_word))]
 pub(crate) fn out_option<'a>(alloc: Global, name: &'a str, help: &'a str) -> Arg<'a>
     ensures rule { rule_of result ≡ out_word }
@@ -122,7 +123,7 @@ pub(crate) fn out_option<'a>(alloc: Global, name: &'a str, help: &'a str) -> Arg
         .help(help)
 }
 
-/// The word `--valuers N`.
+/// Makes the option `--valuers N`.
 #[tactic(auto, unfolding(crate::specs::CommandLine::valuers_word))]
 pub(crate) fn valuers_option<'a>(alloc: Global) -> Arg<'a>
     ensures rule { rule_of result ≡ valuers_word }
@@ -136,7 +137,7 @@ pub(crate) fn valuers_option<'a>(alloc: Global) -> Arg<'a>
         .help("How many threads value blocks, from 1 to 64")
 }
 
-/// The word `--capacity N`.
+/// Makes the option `--capacity N`.
 #[tactic(auto, unfolding(crate::specs::CommandLine::capacity_word))]
 pub(crate) fn capacity_option<'a>(alloc: Global) -> Arg<'a>
     ensures rule { rule_of result ≡ capacity_word }
@@ -150,7 +151,7 @@ pub(crate) fn capacity_option<'a>(alloc: Global) -> Arg<'a>
         .help("How many blocks wait between the threads, from 1 to 4096")
 }
 
-/// The words ZONE.
+/// Makes the arguments ZONE.
 #[tactic(auto, unfolding(crate::specs::CommandLine::zone_word))]
 pub(crate) fn zones<'a>(alloc: Global) -> Arg<'a>
     ensures rule { rule_of result ≡ zone_word }
@@ -186,7 +187,7 @@ fn base<'a>(alloc: Global) -> Arg<'a>
         .help("What the paths of the files begin with, as out/march")
 }
 
-// A subcommand without its words.
+// Makes a subcommand without its arguments.
 fn subcommand<'a>(alloc: Global, name: &'a str, about: &'a str, after: &'a str) -> Command<'a>
     ensures { IsCommandOf (new_app name.now) result }
 {

@@ -1,4 +1,4 @@
-//! What the words of a command line ask for.
+//! Jobs that the arguments of a command line state.
 
 ghost use Rattle.std.specs.Prelude.{◌≡◌, ◌↔◌, string_bytes, IsFalse, IsTrue, IfOk, OnErr};
 ghost use Rattle.command_lines.specs.CommandLine.{AppendsText, IsEndedText, IsRefusal};
@@ -10,8 +10,8 @@ use thiserror::Error;
 /// A job of the program.
 #[derive(Debug, Drop, PartialEq, Eq)]
 pub enum Job {
-    /// Compiles the plan in the file `plan` with the zone files `zones`, in order, and writes the files of the
-    /// instance, whose paths begin with `out`. There is at least one zone file.
+    /// Compiles the plan in the file `plan` with the zone files `zones`, in order, and writes the files of the instance, whose
+    /// paths begin with `out`. There is at least one zone file.
     Compile {
         plan: String,
         out: String,
@@ -24,20 +24,20 @@ pub enum Job {
     },
 }
 
-/// What the words of a run ask for: the file of its plan, where it writes to, its settings, and its zone files in order. There is at
-/// least one.
+/// The values of a run in the arguments: the file of its plan, the base of its output, its settings, and its zone files in order.
+/// There is at least one zone file.
 #[derive(Debug, Drop, PartialEq, Eq)]
-pub struct RunWords {
+pub struct RunArguments {
     pub plan: String,
     pub out: String,
     pub settings: Settings,
     pub zones: Vec<String>,
 }
 
-/// Why the words state no job.
+/// Why arguments state no job.
 #[derive(Debug, Drop, Error)]
 pub enum JobFault {
-    /// The words are not taken, or ask for help or the version. The error's text is for the user.
+    /// The arguments are rejected, or request help or the version. The error's text is for the user.
     #[error("{0}")]
     Line(clap::Error),
     /// Memory was refused.
@@ -68,8 +68,9 @@ impl From<clap::Error> for JobFault {
     }
 }
 
-/// Appends the text of an error of `clap` to `lines` where it refuses the words, and else to `text`: its help, or its version. Answers
-/// whether it refuses them. The text is never empty, and ends in a line feed. Where memory is refused both are as they were.
+/// Appends the text of an error of `clap`: to `lines` if the error rejects the arguments; else to `text`, since it is the help or
+/// the version. Returns whether the error rejects them. The appended text is not empty and ends with a line feed. If memory is
+/// refused, both are unchanged.
 pub fn append_error(
     alloc: Global,
     error: &clap::Error,
@@ -77,7 +78,7 @@ pub fn append_error(
     lines: &mut Vec<u8>,
 ) -> Result<bool, AllocError>
     ensures refuses { IfOk result (λ refused. IsTrue refused ↔ IsRefusal error.now) }
-    ensures told { IfOk result (λ refused. IsTrue refused
+    ensures reported { IfOk result (λ refused. IsTrue refused
         → AppendsText lines.old.items lines.new.items) }
     ensures shown { IfOk result (λ refused. IsFalse refused
         → AppendsText text.old.items text.new.items) }
@@ -86,22 +87,22 @@ pub fn append_error(
     ensures kept { OnErr result
         ((text.new.items ≡ text.old.items) × (lines.new.items ≡ lines.old.items)) }
 {
-    let words = error_text(alloc, error)?;
+    let arguments = error_text(alloc, error)?;
     if error.use_stderr() {
-        lines.extend_from_slice(words.as_bytes())?;
+        lines.extend_from_slice(arguments.as_bytes())?;
         return Ok(true);
     }
-    text.extend_from_slice(words.as_bytes())?;
+    text.extend_from_slice(arguments.as_bytes())?;
     Ok(false)
 }
 
-/// The text of an error of `clap`: its help, its version, or why the words are refused. It is never empty, and ends in a line feed. Fails
-/// only where memory is refused.
+/// Returns the text of an error of `clap`: its help, its version, or why the arguments are rejected. The text is not empty and ends
+/// with a line feed. Fails only if memory is refused.
 pub fn error_text(alloc: Global, error: &clap::Error) -> Result<String, AllocError>
     ensures { IfOk result (λ text. IsEndedText (string_bytes text)) }
 {
-    let words = format!(in alloc; "{error}")?;
-    let words = words.as_str();
-    let words = words.strip_suffix("\n").unwrap_or(words);
-    Ok(format!(in alloc; "{words}\n")?)
+    let arguments = format!(in alloc; "{error}")?;
+    let arguments = arguments.as_str();
+    let arguments = arguments.strip_suffix("\n").unwrap_or(arguments);
+    Ok(format!(in alloc; "{arguments}\n")?)
 }

@@ -1,9 +1,9 @@
-//! The command line of `pitc`, and the job that its words state; and the same of `pitc_thin`.
+//! The command lines of `pitc` and `pitc_thin`, and the jobs that their arguments state.
 #![tactic(auto)]
 
 pub mod command_line;
 pub mod job;
-mod run_words;
+mod run_arguments;
 pub mod stated_job;
 mod stating;
 pub mod thin_line;

@@ -1,4 +1,4 @@
-//! The job that the words of a command line state.
+//! The job that the arguments of a command line state.
 
 ghost use Rattle.std.specs.Prelude.{◌≡◌, [], Some, codes, map, string_bytes, IfOk, IfErr};
 ghost use Rattle.clap.specs.Words.{fault_of, found_of, rows_of, subcommand_rows_of};
@@ -6,27 +6,27 @@ ghost use Rattle.command_lines.specs.CommandLine.{Finds, IsNoMemoryLine, Refuses
 ghost use Rattle.command_lines.specs.inner.Commands.{FindsIfAny};
 
 use crate::command_line::command_line;
-use crate::job::{Job, JobFault, RunWords};
-use crate::run_words::run_words;
+use crate::job::{Job, JobFault, RunArguments};
+use crate::run_arguments::run_arguments;
 use crate::stating::{Stating, stated};
 use clap::{ArgMatches, Command};
 use std::alloc::{AllocError, Global};
 
-/// The job that these words state. The first word is the program's name.
+/// Returns the job that these arguments state. The first argument is the program's name.
 ///
 /// # Errors
 ///
-/// - `Line`: `clap` refuses the words, or they ask for help or the version.
+/// - `Line`: `clap` rejects the arguments, or they request help or the version.
 /// - `OutOfMemory`: memory was refused, here or within `clap`.
 #[tactic(auto, unfolding(crate::specs::CommandLine::StatesJob))]
-pub fn job(alloc: Global, words: &[String]) -> Result<Job, JobFault>
-    ensures accepted { IfOk result (λ _. fault_of program (map string_bytes words.now) ≡ []) }
-    ensures stated { IfOk result (StatesJob (map string_bytes words.now)) }
-    ensures refused { let words = map string_bytes words.now in
-        IfErr result (RefusesBy program (StatesJob words) words) }
+pub fn job(alloc: Global, arguments: &[String]) -> Result<Job, JobFault>
+    ensures accepted { IfOk result (λ _. fault_of program (map string_bytes arguments.now) ≡ []) }
+    ensures stated { IfOk result (StatesJob (map string_bytes arguments.now)) }
+    ensures refused { let arguments = map string_bytes arguments.now in
+        IfErr result (RefusesBy program (StatesJob arguments) arguments) }
     ensures memory { IfErr result IsNoMemoryLine }
 {
-    stated(alloc, words)
+    stated(alloc, arguments)
 }
 
 impl Stating for Job {
@@ -43,7 +43,7 @@ impl Stating for Job {
     }
 }
 
-// The job that clap found in the words.
+// Returns the job that clap found in the arguments.
 fn found_job(alloc: Global, matches: &ArgMatches<'_>) -> Result<Option<Job>, AllocError>
     ensures { IfOk result (FindsIfAny (Finds (subcommand_rows_of matches.now))) }
 {
@@ -53,7 +53,7 @@ fn found_job(alloc: Global, matches: &ArgMatches<'_>) -> Result<Option<Job>, All
     match name {
         "compile" => compile_job(alloc, found),
         "check" => check_job(alloc, found),
-        // clap finds no other
+        // clap finds no other subcommand
         _ => Ok(None),
     }
 }
@@ -73,10 +73,10 @@ fn compile_job(alloc: Global, found: &ArgMatches<'_>) -> Result<Option<Job>, All
     ensures { IfOk result
         (FindsIfAny (Finds (Some (codes "compile", rows_of (found_of found.now))))) }
 {
-    let Some(run) = run_words(alloc, found)? else {
+    let Some(run) = run_arguments(alloc, found)? else {
         return Ok(None);
     };
-    let RunWords {
+    let RunArguments {
         plan,
         out,
         settings,

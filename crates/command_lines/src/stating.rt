@@ -1,4 +1,4 @@
-//! What the words of a program state, read in one way for every program.
+//! The reading of a program's arguments, in the same way for every program.
 
 ghost use Rattle.std.specs.Prelude.{◌≡◌, [], List, Option, map, string_bytes, true, IfOk, IfErr};
 ghost use Rattle.clap.specs.Words.{App, Row, Text, app_of, fault_of, found_of, is_simple_and_free, matches_of, rows_of, subcommand_of, subcommand_rows_of};
@@ -10,41 +10,41 @@ use clap::error::ErrorKind;
 use clap::{ArgMatches, Command};
 use std::alloc::{AllocError, Global};
 
-/// What the words of a program may state.
+/// A value that the arguments of a program may state.
 pub(crate) trait Stating: Sized + Drop {
     /// The command line of the program.
     ghost app: { App };
 
-    /// Whether it has the values that `clap` found: those of the program itself, and those of a subcommand.
+    /// Whether the value has what `clap` found for the program itself, and for a subcommand.
     ghost finds: { List Row → Option (Text × List Row) → Self → Type 0 };
 
-    /// The command line of the program.
+    /// Makes the command line of the program.
     fn command_line<'a>(alloc: Global) -> Result<Command<'a>, AllocError>
         ensures { IfOk result (IsLineOf app) };
 
-    /// What has the values that `clap` found, if there is such a thing.
+    /// Returns the value that has what `clap` found, if there is one.
     fn find(alloc: Global, matches: &ArgMatches<'_>) -> Result<Option<Self>, AllocError>
         ensures { IfOk result
             (FindsIfAny (finds (rows_of (found_of matches.now)) (subcommand_rows_of matches.now))) };
 }
 
-/// What these words state. The first word is the program's name.
+/// Returns the value that these arguments state. The first argument is the program's name.
 ///
 /// # Errors
 ///
-/// - `Line`: `clap` refuses the words, or they ask for help or the version.
+/// - `Line`: `clap` rejects the arguments, or they request help or the version.
 /// - `OutOfMemory`: memory was refused, here or within `clap`.
-pub(crate) fn stated<T: Stating>(alloc: Global, words: &[String]) -> Result<T, JobFault>
-    ensures accepted { IfOk result (λ _. fault_of T.app (map string_bytes words.now) ≡ []) }
-    ensures stated { let words = map string_bytes words.now in
-        IfOk result (T.finds (matches_of T.app words) (subcommand_of T.app words)) }
-    ensures refused { let words = map string_bytes words.now in
-        IfErr result (RefusesBy T.app (T.finds (matches_of T.app words) (subcommand_of T.app words))
-        words) }
+pub(crate) fn stated<T: Stating>(alloc: Global, arguments: &[String]) -> Result<T, JobFault>
+    ensures accepted { IfOk result (λ _. fault_of T.app (map string_bytes arguments.now) ≡ []) }
+    ensures stated { let arguments = map string_bytes arguments.now in
+        IfOk result (T.finds (matches_of T.app arguments) (subcommand_of T.app arguments)) }
+    ensures refused { let arguments = map string_bytes arguments.now in
+        IfErr result (RefusesBy T.app (T.finds (matches_of T.app arguments) (subcommand_of T.app arguments))
+        arguments) }
     ensures memory { IfErr result IsNoMemoryLine }
 {
     let mut command = T::command_line(alloc)?;
-    if let Some(stated) = stated_if_any(alloc, &mut command, words)? {
+    if let Some(stated) = stated_if_any(alloc, &mut command, arguments)? {
         return Ok(stated);
     }
     let fault = command.error(
@@ -54,21 +54,21 @@ pub(crate) fn stated<T: Stating>(alloc: Global, words: &[String]) -> Result<T, J
     Err(JobFault::from(fault))
 }
 
-// What clap finds in these words, if it finds all of it.
+// Returns the value that clap finds in these arguments, if clap finds all its parts.
 fn stated_if_any<'a, T: Stating>(
     alloc: Global,
     command: &mut Command<'a>,
-    words: &'a [String],
+    arguments: &'a [String],
 ) -> Result<Option<T>, JobFault>
     requires { IsLineOf T.app command.old }
-    ensures accepted { IfOk result (λ _. fault_of T.app (map string_bytes words.now) ≡ []) }
-    ensures found { let words = map string_bytes words.now in
-        IfOk result (FindsIfAny (T.finds (matches_of T.app words) (subcommand_of T.app words))) }
-    ensures refused { let words = map string_bytes words.now in
-        IfErr result (RefusesBy T.app (T.finds (matches_of T.app words) (subcommand_of T.app words))
-        words) }
+    ensures accepted { IfOk result (λ _. fault_of T.app (map string_bytes arguments.now) ≡ []) }
+    ensures found { let arguments = map string_bytes arguments.now in
+        IfOk result (FindsIfAny (T.finds (matches_of T.app arguments) (subcommand_of T.app arguments))) }
+    ensures refused { let arguments = map string_bytes arguments.now in
+        IfErr result (RefusesBy T.app (T.finds (matches_of T.app arguments) (subcommand_of T.app arguments))
+        arguments) }
     ensures memory { IfErr result IsNoMemoryLine }
 {
-    let matches = command.try_get_matches_from_mut(words)?;
+    let matches = command.try_get_matches_from_mut(arguments)?;
     Ok(T::find(alloc, &matches)?)
 }

@@ -1,6 +1,6 @@
 mod AtBase
+mod Borrowed
 mod Compiles
-mod Lent
 mod Models
 mod SameRuns
 pub mod Slots

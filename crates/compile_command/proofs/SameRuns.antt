@@ -1,4 +1,4 @@
--- Runs of the same zone files agree, whatever their settings.
+-- Runs of the same zone files agree for all settings.
 use Rattle.std.proofs.Common.{◌≡◌, ◌<◌, ◌⊎◌, ◌&&◌, ◌==◌, ◌++◌, ◌∙◌, ℕ, List, [], ◌∷◌, Bool, true, false, Option, Some, None, inl, inr, refl, ap, sym, subst, arith, drop, length, map, ⊎_elim}
 use Rattle.std.specs.Prelude.{slice_get, slice_index_or}
 use Rattle.std.specs.List.{sum_by}
@@ -6,7 +6,7 @@ use Rattle.std.specs.Option.{is_some, option_map, unwrap_or}
 use Rattle.std.proofs.lemmas.Bool.{and_parts, cases_lt, eq-eqb, eqb-true, false≢true}
 use Rattle.std.proofs.lemmas.List.{append_cancel_left, length-map}
 use Rattle.command_io.specs.ZoneFeeds.{AreOpened}
-use Rattle.compile_command.specs.Compile.{TellsRows, rows_line}
+use Rattle.compile_command.specs.Compile.{ReportsRows, rows_line}
 use Rattle.devices.specs.files.Opening.{Opening, Opened, all_opened}
 use Rattle.devices.specs.sinks.SinkState.{IsWritten, SinkState}
 use Rattle.lane.specs.MessageKinds.{row_count}
@@ -32,7 +32,7 @@ same_texts [] (text ∷ given) h = absurd h
 same_texts (text ∷ texts) [] h = absurd h
 same_texts (text ∷ texts) (other ∷ given) h = ap (λ t. t ∷ given) h.0 ∙ ap (λ ts. text ∷ ts) (same_texts texts given h.1)
 
--- sinks that told the same, and then took the same text, tell the same
+-- sinks with the same state have the same state after they took the same text
 abbrev state_with : Bool → List ℕ → Option (List ℕ) → ℕ → SinkState
 state_with begun before taken failures = record { begun = begun; before = before; taken = taken; failures = failures }
 
@@ -55,37 +55,37 @@ all_the_same plan texts valuers capacity others place old new again g h one othe
           (subst (λ ts. IsWritten (text_named name (instance_from plan ts)) (old name) (new name)) same (one.written name)) (other.written name),
     )
 
--- files that were opened told what they told
-abbrev first_left : List Opening → Option (List ℕ)
-first_left (Opened path left ∷ openings) = left
-first_left openings = None
+-- files that were opened reported what they reported
+abbrev first_remaining : List Opening → Option (List ℕ)
+first_remaining (Opened path remaining ∷ openings) = remaining
+first_remaining openings = None
 
-same_lefts : (paths : List (List ℕ)) (one other : List (Option (List ℕ))) → length one ≡ length paths → length other ≡ length paths
+same_remaining : (paths : List (List ℕ)) (one other : List (Option (List ℕ))) → length one ≡ length paths → length other ≡ length paths
     → all_opened paths one ≡ all_opened paths other → one ≡ other
-same_lefts [] [] [] h k e = refl
-same_lefts [] [] (left ∷ other) h k e = absurd (omega (arith, k))
-same_lefts [] (left ∷ one) other h k e = absurd (omega (arith, h))
-same_lefts (path ∷ paths) [] other h k e = absurd (omega (arith, h))
-same_lefts (path ∷ paths) (left ∷ one) [] h k e = absurd (omega (arith, k))
-same_lefts (path ∷ paths) (left ∷ one) (right ∷ other) h k e =
-    ap (λ l. l ∷ one) (ap first_left e) ∙ ap (λ ls. right ∷ ls)
-    (same_lefts paths one other (omega (arith, h)) (omega (arith, k)) (ap (drop 1) e))
+same_remaining [] [] [] h k e = refl
+same_remaining [] [] (remaining ∷ other) h k e = absurd (omega (arith, k))
+same_remaining [] (remaining ∷ one) other h k e = absurd (omega (arith, h))
+same_remaining (path ∷ paths) [] other h k e = absurd (omega (arith, h))
+same_remaining (path ∷ paths) (remaining ∷ one) [] h k e = absurd (omega (arith, k))
+same_remaining (path ∷ paths) (remaining ∷ one) (right ∷ other) h k e =
+    ap (λ l. l ∷ one) (ap first_remaining e) ∙ ap (λ ls. right ∷ ls)
+    (same_remaining paths one other (omega (arith, h)) (omega (arith, k)) (ap (drop 1) e))
 
 pub same_rows : (plan : PlanParts) (paths texts : List (List ℕ)) (opened now : List Opening) (starts spent begun ended : StartsView)
     (old new again : TextName → SinkState) (one other : Chosen) (text text_one text_other : List ℕ) → length texts ≡ length paths
-    → now ≡ opened ++ all_opened paths (map Some texts) → TellsRows plan paths opened now starts spent old new one text text_one
-    → TellsRows plan paths opened now begun ended old again other text text_other
+    → now ≡ opened ++ all_opened paths (map Some texts) → ReportsRows plan paths opened now starts spent old new one text text_one
+    → ReportsRows plan paths opened now begun ended old again other text text_other
     → (text_one ≡ text_other) × ((name : TextName) → new name ≡ again name)
 same_rows plan paths texts opened now starts spent begun ended old new again one other text text_one text_other count is t u =
     let long : length (map Some texts) ≡ length paths = length-map texts Some ∙ count in
-    let told : (lefts : List (Option (List ℕ))) → AreOpened opened now paths lefts → lefts ≡ map Some texts =
-    λ lefts h. same_lefts paths lefts (map Some texts) h.each long (append_cancel_left opened _ _ (sym h.opened ∙ is)) in
+    let reported : (remainders : List (Option (List ℕ))) → AreOpened opened now paths remainders → remainders ≡ map Some texts =
+    λ remainders h. same_remaining paths remainders (map Some texts) h.each long (append_cancel_left opened _ _ (sym h.opened ∙ is)) in
     let both = all_the_same plan texts one.valuers one.capacity other.valuers other.capacity old new again t.gathered u.gathered
-    (subst (λ ls. IsDone plan ls one.valuers one.capacity old new t.gathered) (told t.compiled.lefts t.compiled.opened) t.compiled.done)
-    (subst (λ ls. IsDone plan ls other.valuers other.capacity old again u.gathered) (told u.compiled.lefts u.compiled.opened) u.compiled.done) in
+    (subst (λ ls. IsDone plan ls one.valuers one.capacity old new t.gathered) (reported t.compiled.remainders t.compiled.opened) t.compiled.done)
+    (subst (λ ls. IsDone plan ls other.valuers other.capacity old again u.gathered) (reported u.compiled.remainders u.compiled.opened) u.compiled.done) in
     (t.appended ∙ ap (λ sent. text ++ rows_line (sum_by row_count sent)) both.0 ∙ sym u.appended, both.1)
 
--- blocks at the place of a third one are at one place
+-- blocks in the same cell as a third one are in the same cell
 all_true : (p q r : Bool) → p ≡ true → q ≡ true → r ≡ true → (p && q) && r ≡ true
 all_true true true true a b c = refl
 all_true true true false a b c = absurd (false≢true c)
@@ -101,7 +101,7 @@ same_again a b c h k =
     all_true (a.x == b.x) (a.y == b.y) (a.z == b.z) (eq-eqb a.x b.x (eqb-true a.x c.x xy.0 ∙ sym (eqb-true b.x c.x uv.0)))
     (eq-eqb a.y b.y (eqb-true a.y c.y xy.1 ∙ sym (eqb-true b.y c.y uv.1))) (eq-eqb a.z b.z (eqb-true a.z c.z z.1 ∙ sym (eqb-true b.z c.z w.1)))
 
--- a list has one first repeated position, and that stood at one position before
+-- a list has only one first repeated position, which has only one earlier position with the same cell
 some_block : (listed : List Block) (n : ℕ) → n < length listed → Block
 some_block [] n within = absurd (omega (arith, within))
 some_block (b ∷ listed) n within = b
@@ -139,7 +139,7 @@ some_same a b e = ap (λ o. unwrap_or o a) e
 none_is_not_some : {A : Type 0} (a : A) → None ≡ Some a → ⊥
 none_is_not_some a e = false≢true (ap is_some e)
 
--- what the verdict tells is the first fault, or the first repeated block where there is none
+-- the verdict is the first fault, or the first repeated block if there is no fault
 record IsRepeat (plan : PlanParts) (texts : List (List ℕ)) (refusal : Refusal) : Type 0 where
   first : RowAt
   again : RowAt
@@ -147,16 +147,16 @@ record IsRepeat (plan : PlanParts) (texts : List (List ℕ)) (refusal : Refusal)
   none : fault_in texts plan.grid 0 ≡ None
   repeats : IsFirstRepeat (model_rows plan texts) first again
 
-told : (plan : PlanParts) (texts : List (List ℕ)) (refusal : Refusal) → IsRefusedBy plan texts refusal
+reported : (plan : PlanParts) (texts : List (List ℕ)) (refusal : Refusal) → IsRefusedBy plan texts refusal
     → (fault_in texts plan.grid 0 ≡ Some refusal) ⊎ IsRepeat plan texts refusal
-told plan texts (TooLong file) h = inl h
-told plan texts (Row file fault) h = inl h
-told plan texts (Same first again) h = inr (record { first = first; again = again; is = refl; none = h.0; repeats = h.1 })
-told plan texts (Settings kind) h = absurd h
-told plan texts NoThread h = absurd h
-told plan texts (FeedFailed file) h = absurd h
-told plan texts (SinkFailed which) h = absurd h
-told plan texts OutOfMemory h = absurd h
+reported plan texts (TooLong file) h = inl h
+reported plan texts (Row file fault) h = inl h
+reported plan texts (Same first again) h = inr (record { first = first; again = again; is = refl; none = h.0; repeats = h.1 })
+reported plan texts (Settings kind) h = absurd h
+reported plan texts NoThread h = absurd h
+reported plan texts (FeedFailed file) h = absurd h
+reported plan texts (SinkFailed which) h = absurd h
+reported plan texts OutOfMemory h = absurd h
 
 one_repeat : (plan : PlanParts) (texts : List (List ℕ)) (one other : Refusal) → IsRepeat plan texts one → IsRepeat plan texts other → one ≡ other
 one_repeat plan texts one other a b =
@@ -173,9 +173,9 @@ one_repeat plan texts one other a b =
 verdict_once : (plan : PlanParts) (texts : List (List ℕ)) (one other : Refusal) → IsRefusedBy plan texts one → IsRefusedBy plan texts other
     → one ≡ other
 verdict_once plan texts one other h k =
-    ⊎_elim (λ a. ⊎_elim (λ b. some_same one other (sym a ∙ b)) (λ b. absurd (none_is_not_some one (sym b.none ∙ a))) (told plan texts other k))
-    (λ a. ⊎_elim (λ b. absurd (none_is_not_some other (sym a.none ∙ b))) (λ b. one_repeat plan texts one other a b) (told plan texts other k))
-    (told plan texts one h)
+    ⊎_elim (λ a. ⊎_elim (λ b. some_same one other (sym a ∙ b)) (λ b. absurd (none_is_not_some one (sym b.none ∙ a))) (reported plan texts other k))
+    (λ a. ⊎_elim (λ b. absurd (none_is_not_some other (sym a.none ∙ b))) (λ b. one_repeat plan texts one other a b) (reported plan texts other k))
+    (reported plan texts one h)
 
 refused_of : (plan : PlanParts) (texts : List (List ℕ)) (refusal : Refusal) → IsVerdict plan (map Some texts) refusal → IsRefusedBy plan texts refusal
 refused_of plan texts refusal v = subst (λ ts. IsRefusedBy plan ts refusal) (same_texts texts v.texts v.given) v.refused
@@ -184,7 +184,7 @@ pub one_verdict : (plan : PlanParts) (texts : List (List ℕ)) (one other : Refu
     → IsVerdict plan (map Some texts) other → one ≡ other
 one_verdict plan texts one other a b = verdict_once plan texts one other (refused_of plan texts one a) (refused_of plan texts other b)
 
--- what the verdict accepts it does not refuse
+-- the verdict does not reject what it accepts
 accepted_not_refused : (plan : PlanParts) (texts : List (List ℕ)) (refusal : Refusal) → IsAccepted plan texts → IsRefusedBy plan texts refusal → ⊥
 accepted_not_refused plan texts refusal accepted h =
     ⊎_elim (λ a. none_is_not_some refusal (sym accepted.no_fault ∙ a))
@@ -192,7 +192,7 @@ accepted_not_refused plan texts refusal accepted h =
     let f = a.repeats.repeats in
     let d = some_block (model_blocks plan texts) a.repeats.later f.within in
     false≢true (sym (accepted.apart a.repeats.earlier a.repeats.later d f.before f.within) ∙ f.same d))
-    (told plan texts refusal h)
+    (reported plan texts refusal h)
 
 pub not_both : (plan : PlanParts) (texts : List (List ℕ)) (valuers capacity : ℕ) (old new : TextName → SinkState) (g : GatheredView)
     (refusal : Refusal) → IsDone plan (map Some texts) valuers capacity old new g → IsVerdict plan (map Some texts) refusal → ⊥

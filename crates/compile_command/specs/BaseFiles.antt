@@ -1,13 +1,14 @@
--- A compile to the files of BASE: what their sinks tell, what is done, and why it is refused.
+-- A compile to the files of BASE: the states of their sinks, the result, and the errors.
 use Rattle.std.specs.Prelude.{◌≡◌, ℕ, Bool, false, List, [], ◌++◌, map, Option, Some, None, IsTrue}
-use Rattle.devices.specs.feeds.FileFeedView.{FileFeedView}
+use Rattle.devices.specs.feeds.FeedState.{FeedState}
+use Rattle.devices.specs.feeds.FileFeedView.{file_state}
 use Rattle.devices.specs.files.Opening.{Opening}
 use Rattle.devices.specs.sinks.FileSinkView.{FileSinkView, unbegun}
 use Rattle.devices.specs.sinks.SinkState.{SinkState}
 use Rattle.minelib_lines.specs.TextNames.{all_texts, ending_of}
 use Rattle.minelib_lines.specs.declared.text_name.TextName.{TextName}
-use Rattle.compile_command.specs.Compile.{IsNoCompile, TellsRows}
-use Rattle.pit_compile.specs.Sinks.{all_told}
+use Rattle.compile_command.specs.Compile.{IsNoCompile, ReportsRows}
+use Rattle.pit_compile.specs.Sinks.{sink_states}
 use Rattle.refusals.specs.declared.refusal.Refusal.TheVariants.{OutOfMemory}
 use Rattle.pit_compile.specs.declared.running.TheConstants.{MOST_STARTS}
 use Rattle.pit_compile.specs.declared.sinks.Sinks.{Sinks}
@@ -21,23 +22,23 @@ use Rattle.plan_parts.specs.declared.formulas.formula.Formula.{Formula}
 use Rattle.plan_parts.specs.declared.settings.Settings.{Settings}
 use Rattle.run_threads.specs.Starts.{none_spent, StartsView}
 
--- the path of the file of this text
+-- the path of this text's file
 abbrev pub base_path : List ℕ → TextName → List ℕ
 base_path base name = path_to base (ending_of name)
 
--- those of all files of BASE, in the order of writing
+-- the paths of all files of BASE, in the order of writing
 abbrev pub base_paths : List ℕ → List (List ℕ)
 base_paths base = map (λ name. path_to base (ending_of name)) all_texts
 
--- what a sink over a file tells, with the path of the file where other sinks have the bytes before the text: a run leaves these as they are
-abbrev pub told_at : FileSinkView → SinkState
-told_at s = record { begun = s.begun; before = s.path; taken = s.held; failures = s.failures }
+-- the state of a sink over a file, with the path of the file as the bytes before the text: a run never changes these
+abbrev pub state_with_path : FileSinkView → SinkState
+state_with_path s = record { begun = s.begun; before = s.path; taken = s.held; failures = s.failures }
 
--- what the sinks of the files of BASE tell before they are begun, by whether these files tell what they hold
+-- the states of the sinks of the files of BASE before they are begun, by whether these files report their content
 abbrev pub unbegun_at : Bool → List ℕ → TextName → SinkState
-unbegun_at tells base name = told_at (unbegun tells (base_path base name))
+unbegun_at reports base name = state_with_path (unbegun reports (base_path base name))
 
--- once the sink is begun there is a file at its path
+-- once the sink is begun, there is a file at its path
 abbrev pub HasFile : {F : Type 0} → (F → List ℕ) → FileSinkView → Type 0
 HasFile {F} path s = IsTrue s.begun → ((file : F) × (path file ≡ s.path))
 
@@ -45,56 +46,57 @@ HasFile {F} path s = IsTrue s.begun → ((file : F) × (path file ≡ s.path))
 abbrev pub AreThere : {F : Type 0} → (F → List ℕ) → List ℕ → Type 0
 AreThere {F} path base = (name : TextName) → ((file : F) × (path file ≡ base_path base name))
 
--- of a compile of these zone files to the files of BASE: what was opened, which slots were made and which starts were spent, before and now,
--- and whether files tell what they hold
+-- for a compile of these zone files to the files of BASE: the openings, the slots and the starts, before and after, and whether
+-- files report their content. A slot can create the file at one path, once
 module _ (plan : PlanParts) (base : List ℕ) (zones : List (List ℕ)) (opened_old opened_new : List Opening) (made_old made_new : List (List ℕ))
-    (starts_old starts_new : StartsView) (tells : Bool) where
-  -- a slot was made for each file of BASE, and no other; and the rows were told, of a compile into the sinks of these slots
-  abbrev pub TellsRowsAt : Settings → Option (Sinks FileSinkView) → (out_old out_new : List ℕ) → Type 0
-  TellsRowsAt settings None out_old out_new = ⊥
-  TellsRowsAt settings (Some sinks) out_old out_new =
+    (starts_old starts_new : StartsView) (reports : Bool) where
+  -- exactly one slot was made for each file of BASE, and the line of the rows was appended, for a compile into the sinks of these
+  -- slots
+  abbrev pub ReportsRowsAt : Settings → Option (Sinks FileSinkView) → (out_old out_new : List ℕ) → Type 0
+  ReportsRowsAt settings None out_old out_new = ⊥
+  ReportsRowsAt settings (Some sinks) out_old out_new =
       (made_new ≡ made_old ++ base_paths base)
-      × TellsRows plan zones opened_old opened_new starts_old starts_new (unbegun_at tells base) (all_told told_at sinks) settings out_old out_new
+      × ReportsRows plan zones opened_old opened_new starts_old starts_new (unbegun_at reports base) (sink_states state_with_path sinks) settings out_old out_new
 
-  -- by what feeds have left, whether they are sure, and how many pulls they refused
-  module _ {F : Type 0} (left : F → Option (List ℕ)) (is_sure : F → Bool) (failures : F → ℕ) where
-    -- memory for the paths was refused, and nothing else was tried; or the slots were made, and no other, and the compile into their sinks is
-    -- refused
+  -- by the states of feeds
+  module _ {F : Type 0} (state : F → FeedState) where
+    -- memory for the paths was refused, and nothing else was tried; or exactly the slots were made, and the compile into their
+    -- sinks failed
     abbrev pub IsNoCompileAt : List Formula → Settings → Option (Sinks FileSinkView) → Refused → Type 0
     IsNoCompileAt formulas settings None refused =
         (refused ≡ Run OutOfMemory) × (made_new ≡ made_old) × (opened_new ≡ opened_old) × (starts_new ≡ starts_old)
     IsNoCompileAt formulas settings (Some sinks) refused =
         (made_new ≡ made_old ++ base_paths base)
-        × IsNoCompile plan zones opened_old opened_new starts_old starts_new (unbegun_at tells base) (all_told told_at sinks) left is_sure failures
-        formulas settings refused
+        × IsNoCompile plan zones opened_old opened_new starts_old starts_new (unbegun_at reports base) (sink_states state_with_path sinks) state formulas
+        settings refused
 
--- the same of the plan that the file at this path states, which was opened first; `given` and `failures` are how many bytes a feed gave and how
--- many pulls it refused
-pub record TellsRowsFrom (path base : List ℕ) (zones : List (List ℕ)) (opened_old opened_new : List Opening) (made_old made_new : List (List ℕ))
-    (starts_old starts_new : StartsView) (tells : Bool) {F : Type 0} (given failures : F → ℕ) (settings : Settings)
+-- the same of the plan that the file at this path states, which was opened first, by the states of feeds
+pub record ReportsRowsFrom (path base : List ℕ) (zones : List (List ℕ)) (opened_old opened_new : List Opening) (made_old made_new : List (List ℕ))
+    (starts_old starts_new : StartsView) (reports : Bool) {F : Type 0} (state : F → FeedState) (settings : Settings)
     (sinks : Option (Sinks FileSinkView)) (out_old out_new : List ℕ) : Type 0 where
   pub plan : PlanParts
   pub between : List Opening
-  pub read : IsPlanAt given failures path opened_old between plan
-  pub told : TellsRowsAt plan base zones between opened_new made_old made_new starts_old starts_new tells settings sinks out_old out_new
+  pub read : IsPlanAt state path opened_old between plan
+  pub reported : ReportsRowsAt plan base zones between opened_new made_old made_new starts_old starts_new reports settings sinks out_old out_new
 
--- why it is not: the plan that the file at this path states, which was opened first, is not compiled; `left` and so on are as above
+-- why it is not: the plan that the file at this path states, which was opened first, is not compiled
 pub record IsNoCompileFrom (path base : List ℕ) (zones : List (List ℕ)) (opened_old opened_new : List Opening) (made_old made_new : List (List ℕ))
-    (starts_old starts_new : StartsView) (tells : Bool) {F : Type 0} (left : F → Option (List ℕ)) (is_sure : F → Bool) (given failures : F → ℕ)
-    (settings : Settings) (sinks : Option (Sinks FileSinkView)) (refused : Refused) : Type 0 where
+    (starts_old starts_new : StartsView) (reports : Bool) {F : Type 0} (state : F → FeedState) (settings : Settings)
+    (sinks : Option (Sinks FileSinkView)) (refused : Refused) : Type 0 where
   pub plan : PlanParts
   pub between : List Opening
-  pub read : IsPlanAt given failures path opened_old between plan
-  pub why : IsNoCompileAt plan base zones between opened_new made_old made_new starts_old starts_new tells left is_sure failures
-      (formulas_of_plan plan) settings sinks refused
+  pub read : IsPlanAt state path opened_old between plan
+  pub why : IsNoCompileAt plan base zones between opened_new made_old made_new starts_old starts_new reports state (formulas_of_plan plan) settings
+      sinks refused
 
--- rows are told of the files of a system, of which none was asked for before, and by starts of which none was spent
-pub record TellsRowsOfFiles (plan : PlanParts) (base : List ℕ) (zones : List (List ℕ)) (settings : Settings) (out_old out_new : List ℕ) : Type 0 where
+-- the line of the rows was appended, for the files of a system, none of which was opened or made before, and by starts none of
+-- which was spent
+pub record ReportsRowsOfFiles (plan : PlanParts) (base : List ℕ) (zones : List (List ℕ)) (settings : Settings) (out_old out_new : List ℕ) : Type 0 where
   pub opened : List Opening
   pub made : List (List ℕ)
   pub starts : StartsView
   pub sinks : Option (Sinks FileSinkView)
-  pub told : TellsRowsAt plan base zones [] opened [] made (none_spent MOST_STARTS) starts false settings sinks out_old out_new
+  pub reported : ReportsRowsAt plan base zones [] opened [] made (none_spent MOST_STARTS) starts false settings sinks out_old out_new
 
 -- why such files are not compiled
 pub record IsNoCompileOfFiles (plan : PlanParts) (base : List ℕ) (zones : List (List ℕ)) (formulas : List Formula) (settings : Settings)
@@ -103,5 +105,5 @@ pub record IsNoCompileOfFiles (plan : PlanParts) (base : List ℕ) (zones : List
   pub made : List (List ℕ)
   pub starts : StartsView
   pub sinks : Option (Sinks FileSinkView)
-  pub why : IsNoCompileAt plan base zones [] opened [] made (none_spent MOST_STARTS) starts false (λ (feed : FileFeedView). feed.left)
-      (λ (feed : FileFeedView). false) (λ (feed : FileFeedView). feed.failures) formulas settings sinks refused
+  pub why : IsNoCompileAt plan base zones [] opened [] made (none_spent MOST_STARTS) starts false file_state formulas settings
+      sinks refused

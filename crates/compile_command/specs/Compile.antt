@@ -1,7 +1,8 @@
--- What a compile does: it opens zone files, runs on them into its sinks, and tells the rows.
-use Rattle.std.specs.Prelude.{◌≡◌, ℕ, ◌+◌, ◌⊎◌, Bool, List, [], ◌∷◌, ◌++◌, codes, length, map, Option}
+-- A compile: it opens zone files, runs on them into its sinks, and appends the line of the rows.
+use Rattle.std.specs.Prelude.{◌≡◌, ℕ, ◌+◌, ◌⊎◌, List, [], ◌∷◌, ◌++◌, codes, length, Option}
 use Rattle.std.specs.Fmt.{decimal}
 use Rattle.std.specs.List.{sum_by}
+use Rattle.devices.specs.feeds.FeedState.{FeedState, all_remaining}
 use Rattle.devices.specs.files.Opening.{Opening}
 use Rattle.devices.specs.sinks.SinkState.{SinkState}
 use Rattle.lane.specs.MessageKinds.{row_count}
@@ -22,39 +23,41 @@ use Rattle.pit_compile.specs.Starts.{AreStartsOf}
 use Rattle.run_threads.specs.Refusing.{HasFailed}
 use Rattle.run_threads.specs.Starts.{AreSpent, StartsView}
 
--- the line of so many rows
+-- the line with this number of rows
 abbrev pub rows_line : ℕ → List ℕ
 rows_line rows = codes "rows " ++ (decimal rows ++ 10 ∷ [])
 
--- of the zone files at these paths: what was opened before and is now, the starts of threads, and what the sinks told before and tell now
+-- for the zone files at these paths: the openings before and after, the starts of threads, and the states of the sinks before and
+-- after
 module _ (plan : PlanParts) (paths : List (List ℕ)) (opened_old opened_new : List Opening) (starts_old starts_new : StartsView)
     (old new : TextName → SinkState) where
-  -- the files were opened in this order, and no other, and the run on them into the sinks is done, by a thread for each valuer and file
+  -- exactly the files were opened, in this order, and the run on them into the sinks is complete, with a thread for each valuer and
+  -- file
   pub record IsCompiled (settings : Settings) (gathered : GatheredView) : Type 0 where
-    pub lefts : List (Option (List ℕ))
-    pub opened : AreOpened opened_old opened_new paths lefts
-    pub done : IsDone plan lefts settings.valuers settings.capacity old new gathered
+    pub remainders : List (Option (List ℕ))
+    pub opened : AreOpened opened_old opened_new paths remainders
+    pub done : IsDone plan remainders settings.valuers settings.capacity old new gathered
     pub started : AreSpent (settings.valuers + length paths) starts_new
 
   -- the same, and the line of its rows was appended
-  pub record TellsRows (settings : Settings) (out_old out_new : List ℕ) : Type 0 where
+  pub record ReportsRows (settings : Settings) (out_old out_new : List ℕ) : Type 0 where
     pub gathered : GatheredView
     pub compiled : IsCompiled settings gathered
     pub appended : out_new ≡ out_old ++ rows_line (sum_by row_count gathered.sent)
 
-  -- by what feeds have left, whether they are sure, and how many pulls they refused
-  module _ {F : Type 0} (left : F → Option (List ℕ)) (is_sure : F → Bool) (failures : F → ℕ) where
-    -- the files were opened in this order, and no other, and the run on their feeds is refused: by these settings and destinations, or as a
-    -- run is
+  -- by the states of feeds
+  module _ {F : Type 0} (state : F → FeedState) where
+    -- exactly the files were opened, in this order, and the run on their feeds failed: by these settings and destinations, or as
+    -- runs fail
     pub record IsRunRefused (formulas : List Formula) (settings : Settings) (why : Refusal) : Type 0 where
       pub feeds : List F
-      pub opened : AreOpened opened_old opened_new paths (map left feeds)
-      pub faulty : (kind : SettingsFault) → why ≡ refusal.Settings kind → IsSettingsFault plan (length paths) formulas settings kind
-      pub refused : IsRefused plan (map left feeds) (HasFailed is_sure failures feeds) old new why
+      pub opened : AreOpened opened_old opened_new paths (all_remaining state feeds)
+      pub invalid : (kind : SettingsFault) → why ≡ refusal.Settings kind → IsSettingsFault plan (length paths) formulas settings kind
+      pub refused : IsRefused plan (all_remaining state feeds) (HasFailed state feeds) old new why
       pub starts : AreStartsOf (settings.valuers + length paths) starts_old starts_new why
 
-    -- not all files could be opened, and neither sinks nor threads were begun; or the run is refused; or it is done, and memory for its line
-    -- was refused
+    -- not all files could be opened, and neither sinks nor threads were begun; or the run failed; or it is complete, and memory for
+    -- its line was refused
     abbrev pub IsNoCompile : List Formula → Settings → Refused → Type 0
     IsNoCompile formulas settings refused =
         (AreNotOpened opened_old opened_new paths refused × (new ≡ old) × (starts_new ≡ starts_old))

@@ -1,12 +1,12 @@
-//! From the files of a plan and its zones to the texts of an instance.
+//! A compile of zone files to the files of an instance.
 
 ghost use Rattle.std.specs.Prelude.{◌≡◌, ◌++◌, map, string_bytes, IfErr, OnOk, OnErr};
-ghost use Rattle.pit_compile.specs.Sinks.{all_told};
+ghost use Rattle.pit_compile.specs.Sinks.{sink_states};
 ghost use Rattle.command_io.specs.FaultLine.{IsDoneOrRefused};
 ghost use Rattle.plan_parts.specs.Destinations.{formulas_of};
 ghost use Rattle.run_threads.specs.Starts.{none_spent, AreSettled};
-ghost use Rattle.compile_command.specs.BaseFiles.{AreThere, IsNoCompileOfFiles, TellsRowsOfFiles};
-ghost use Rattle.compile_command.specs.Compile.{IsNoCompile, TellsRows, rows_line};
+ghost use Rattle.compile_command.specs.BaseFiles.{AreThere, IsNoCompileOfFiles, ReportsRowsOfFiles};
+ghost use Rattle.compile_command.specs.Compile.{IsNoCompile, ReportsRows, rows_line};
 
 use crate::compile_at::compile_at;
 use command_io::refused::Refused;
@@ -26,21 +26,22 @@ use std::rt::Files;
 use std::sync::Wait;
 use std::thread::Threads;
 
-/// Compiles the zone files at these paths, which are opened in order, into the sinks, as `run` does with a gate that is always open.
-/// Appends the line `rows N` to `out`, N being the number of rows over all zone files. No other file is opened.
+/// Compiles the zone files at these paths, which it opens in order, into the sinks, like `run` with a gate that is always open.
+/// Appends the line `rows N` to `out`; N is the number of rows in all zone files. Opens no other file.
 ///
-/// - The first zone file that cannot be opened is refused before anything else.
-/// - No sink is begun before all blocks are known to be different.
-/// - Where a sink then fails, those before it are whole.
+/// - The first zone file that cannot be opened is reported before any other error.
+/// - The sinks are begun only after all blocks are known to be in different cells.
+/// - If a sink then fails, the sinks before it hold their complete files.
+///
+/// `starts` must have spent none. Afterwards it shows what happened: `NoThread` is returned only if a start was refused before
+/// there were enough threads.
 ///
 /// # Errors
 ///
-/// `out` is as it was.
+/// `out` is unchanged.
 ///
-/// - `FeedFailed` of a zone file: it cannot be opened, and the sinks are as they were.
-/// - `Run`: the run is refused; or memory was refused, which may be for the line alone, the texts being written.
-///
-/// The starts, which none was spent of, tell what became of them: `NoThread` is told only where one was refused before there were enough.
+/// - `FeedFailed`: a zone file cannot be opened. The sinks are unchanged.
+/// - `Run`: the run failed; or memory was refused, possibly only for the line, after the files were written.
 #[tactic(auto, using(crate::proofs::Compiles::unopened_files, crate::proofs::Compiles::refused_line))]
 pub fn compile_into<R: Threads + Wait + Sync, O: Opener, S: Sink>(
     alloc: Global,
@@ -54,15 +55,15 @@ pub fn compile_into<R: Threads + Wait + Sync, O: Opener, S: Sink>(
     out: &mut Vec<u8>,
 ) -> Result<(), Refused>
     requires unspent { starts.old ≡ none_spent starts.old.allowed }
-    ensures done { let told = all_told S.state in
-        OnOk result (TellsRows plan.now (map string_bytes zones.now) (O.opened files.old)
-        (O.opened files.new) starts.old starts.new (told sinks.old) (told sinks.new)
+    ensures done { let reported = sink_states S.state in
+        OnOk result (ReportsRows plan.now (map string_bytes zones.now) (O.opened files.old)
+        (O.opened files.new) starts.old starts.new (reported sinks.old) (reported sinks.new)
         settings out.old.items out.new.items) }
     ensures kept { OnErr result (out.new.items ≡ out.old.items) }
-    ensures refused { let told = all_told S.state in
+    ensures refused { let reported = sink_states S.state in
         IfErr result (IsNoCompile plan.now (map string_bytes zones.now) (O.opened files.old)
-        (O.opened files.new) starts.old starts.new (told sinks.old) (told sinks.new)
-        O.Opened.left O.Opened.is_sure O.Opened.failures (formulas_of destinations.now) settings) }
+        (O.opened files.new) starts.old starts.new (reported sinks.old) (reported sinks.new) O.Opened.state
+        (formulas_of destinations.now) settings) }
     ensures settled { AreSettled starts.old starts.new }
 {
     let feeds = open_all(alloc, zones, files)?;
@@ -71,14 +72,14 @@ pub fn compile_into<R: Threads + Wait + Sync, O: Opener, S: Sink>(
     Ok(())
 }
 
-/// Compiles the zone files at these paths of the system, and writes the texts of the instance to their files: `BASE.blocks` and so on,
-/// each in place of what is there. Returns the status that the program ends with.
+/// Compiles the zone files of the system at these paths, and writes the files of the instance: `BASE.blocks` and so on. Replaces
+/// existing files. Returns the exit status.
 ///
-/// Where all is written it appends the line `rows N` to `out`; else the line of the refusal to `err`. Only one of the two grows. For
-/// want of memory the status is that of memory, and both are as they were.
+/// If all is written, it appends the line `rows N` to `out`; else the line of the error to `err`. At most one of the two grows. If
+/// memory is refused, the status is 4, and both are unchanged.
 ///
-/// It is `compile_at` over the files of the system, with `MOST_STARTS` starts. No contract can say what these files hold: what is told is
-/// of some files at these paths. Where the status is 0 the system has made or opened a file at each path of BASE.
+/// It is `compile_at` over the system's files, with `MOST_STARTS` starts. No contract can state the content of these files: its
+/// clauses are about some files at these paths. If the status is 0, the system has made or opened a file at each path of BASE.
 pub fn compile_files<R: Files + Threads + Wait + Sync>(
     rt: &R,
     alloc: Global,
@@ -93,7 +94,7 @@ pub fn compile_files<R: Files + Threads + Wait + Sync>(
 where
     R::File: Send,
     ensures ends { IsDoneOrRefused
-        (TellsRowsOfFiles plan.now base.now (map string_bytes zones.now) settings)
+        (ReportsRowsOfFiles plan.now base.now (map string_bytes zones.now) settings)
         (IsNoCompileOfFiles plan.now base.now (map string_bytes zones.now)
         (formulas_of destinations.now) settings)
         out.old.items out.new.items err.old.items err.new.items result }
@@ -115,9 +116,9 @@ where
     ended.status
 }
 
-// Appends the line of so many rows to `out`. Where memory is refused `out` is as it was.
+// Appends the line with this number of rows to `out`. If memory is refused, `out` is unchanged.
 fn append_rows(alloc: Global, rows: u64, out: &mut Vec<u8>) -> Result<(), AllocError>
-    ensures told { OnOk result (out.new.items ≡ out.old.items ++ rows_line rows) }
+    ensures reported { OnOk result (out.new.items ≡ out.old.items ++ rows_line rows) }
     ensures kept { OnErr result (out.new.items ≡ out.old.items) }
 {
     let line = format!(in alloc; "rows {rows}\n")?;

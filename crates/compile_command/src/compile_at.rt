@@ -1,10 +1,10 @@
-//! From the files of a plan and its zones to the files of BASE.
+//! A compile of a plan and its zone files to the files of BASE.
 
 ghost use Rattle.std.specs.Prelude.{◌≡◌, map, string_bytes};
 ghost use Rattle.minelib_lines.specs.declared.text_name.TextName.{TextName as AName};
-ghost use Rattle.compile_command.specs.BaseFiles.{AreThere, HasFile, IsNoCompileAt, TellsRowsAt};
-ghost use Rattle.compile_command.specs.Compile.{IsNoCompile, TellsRows};
-ghost use Rattle.pit_compile.specs.Sinks.{all_told, sink_of};
+ghost use Rattle.compile_command.specs.BaseFiles.{AreThere, HasFile, IsNoCompileAt, ReportsRowsAt};
+ghost use Rattle.compile_command.specs.Compile.{IsNoCompile, ReportsRows};
+ghost use Rattle.pit_compile.specs.Sinks.{sink_of, sink_states};
 ghost use Rattle.command_io.specs.FaultLine.{IsDoneOrRefused};
 ghost use Rattle.plan_parts.specs.Destinations.{formulas_of};
 ghost use Rattle.run_threads.specs.Starts.{none_spent, AreSettled};
@@ -13,7 +13,7 @@ use crate::compile::compile_into;
 use crate::instance_files::sinks_of;
 use crate::placed_sink::PlacedSink;
 use command_io::refused::Refused;
-use command_io::refused::fault_line::tell;
+use command_io::refused::fault_line::report;
 use devices::files::file_slot::{FileSlot, FileSlots};
 use devices::files::opener::Opener;
 use devices::sinks::sink::Sink;
@@ -26,21 +26,21 @@ use std::alloc::Global;
 use std::sync::Wait;
 use std::thread::Threads;
 
-/// How a task ended.
+/// The end of a task.
 #[derive(Drop)]
 pub struct Ended<P: FileSlot> {
-    /// The status that the program ends with.
+    /// The exit status of the program.
     pub status: u8,
-    /// The sinks of the files of BASE, where slots for these were made.
+    /// The sinks of the files of BASE, if slots for these were made.
     pub sinks: Option<Sinks<PlacedSink<P>>>,
 }
 
-/// Compiles the zone files at these paths, as `compile_into` does, into sinks for the files of BASE: `BASE.blocks` and so on, each of which
-/// takes the place of what is there. It has one slot made for each, and no other, and answers how it ended.
+/// Compiles the zone files at these paths, like `compile_into`, into sinks for the files of BASE: `BASE.blocks` and so on, which
+/// replace existing files. Makes exactly one slot for each. Returns the end of the task.
 ///
-/// Where the status is 0 it appended the line of the rows to `out`, and else the line of the refusal to `err`. Only one of the two grows.
-/// For want of memory the status is that of memory, and both are as they were; for want of memory for the paths there are no sinks, and
-/// nothing was opened, made or started.
+/// With the status 0 it appended the line of the rows to `out`, else the line of the error to `err`. At most one of the two grows.
+/// If memory is refused, the status is 4, and both are unchanged; if it is refused for the paths, there are no sinks, and nothing
+/// was opened, made or started.
 pub fn compile_at<R: Threads + Wait + Sync, O: Opener, F: FileSlots>(
     alloc: Global,
     files: &mut O,
@@ -55,12 +55,12 @@ pub fn compile_at<R: Threads + Wait + Sync, O: Opener, F: FileSlots>(
     err: &mut Vec<u8>,
 ) -> Ended<F::Slot>
     requires unspent { starts.old ≡ none_spent starts.old.allowed }
-    ensures ends { IsDoneOrRefused (TellsRowsAt plan.now base.now (map string_bytes zones.now)
+    ensures ends { IsDoneOrRefused (ReportsRowsAt plan.now base.now (map string_bytes zones.now)
         (O.opened files.old) (O.opened files.new) (F.made slots.old) (F.made slots.new) starts.old
-        starts.new F.Slot.tells settings result.sinks) (IsNoCompileAt plan.now base.now
+        starts.new F.Slot.reports settings result.sinks) (IsNoCompileAt plan.now base.now
         (map string_bytes zones.now) (O.opened files.old) (O.opened files.new) (F.made slots.old)
-        (F.made slots.new) starts.old starts.new F.Slot.tells O.Opened.left O.Opened.is_sure
-        O.Opened.failures (formulas_of destinations.now) settings result.sinks)
+        (F.made slots.new) starts.old starts.new F.Slot.reports O.Opened.state
+        (formulas_of destinations.now) settings result.sinks)
         out.old.items out.new.items err.old.items err.new.items result.status }
     ensures there { result.status ≡ 0 → AreThere F.Slot.File.path base.now }
     ensures settled { AreSettled starts.old starts.new }
@@ -69,7 +69,7 @@ pub fn compile_at<R: Threads + Wait + Sync, O: Opener, F: FileSlots>(
         Ok(sinks) => sinks,
         Err(refusal) => {
             return Ended {
-                status: tell(alloc, &Refused::from(refusal), err),
+                status: report(alloc, &Refused::from(refusal), err),
                 sinks: None,
             };
         }
@@ -93,8 +93,8 @@ pub fn compile_at<R: Threads + Wait + Sync, O: Opener, F: FileSlots>(
     }
 }
 
-// Compiles as `compile_into` does, and answers the status. Where that is 0 the line of the rows is appended to `out`, and else the line of
-// the refusal to `err`.
+// Compiles like `compile_into`, and returns the exit status. With the status 0 it appended the line of the rows to `out`, else the
+// line of the error to `err`.
 fn compile_with<R: Threads + Wait + Sync, O: Opener, S: Sink>(
     alloc: Global,
     files: &mut O,
@@ -108,12 +108,12 @@ fn compile_with<R: Threads + Wait + Sync, O: Opener, S: Sink>(
     err: &mut Vec<u8>,
 ) -> u8
     requires unspent { starts.old ≡ none_spent starts.old.allowed }
-    ensures ends { let told = all_told S.state in
-        IsDoneOrRefused (TellsRows plan.now (map string_bytes zones.now) (O.opened files.old)
-        (O.opened files.new) starts.old starts.new (told sinks.old) (told sinks.new) settings)
+    ensures ends { let reported = sink_states S.state in
+        IsDoneOrRefused (ReportsRows plan.now (map string_bytes zones.now) (O.opened files.old)
+        (O.opened files.new) starts.old starts.new (reported sinks.old) (reported sinks.new) settings)
         (IsNoCompile plan.now (map string_bytes zones.now) (O.opened files.old)
-        (O.opened files.new) starts.old starts.new (told sinks.old) (told sinks.new)
-        O.Opened.left O.Opened.is_sure O.Opened.failures (formulas_of destinations.now) settings)
+        (O.opened files.new) starts.old starts.new (reported sinks.old) (reported sinks.new) O.Opened.state
+        (formulas_of destinations.now) settings)
         out.old.items out.new.items err.old.items err.new.items result }
     ensures settled { AreSettled starts.old starts.new }
 {
@@ -129,11 +129,11 @@ fn compile_with<R: Threads + Wait + Sync, O: Opener, S: Sink>(
         out,
     ) {
         Ok(()) => 0,
-        Err(refused) => tell(alloc, &refused, err),
+        Err(refused) => report(alloc, &refused, err),
     }
 }
 
-// Shows contracts that there is a file at the path of each sink that is begun. It does nothing.
+// Shows contracts that there is a file at the path of each begun sink. Does nothing.
 fn show_all<P: FileSlot>(sinks: &Sinks<PlacedSink<P>>)
     ensures { (name : AName) → HasFile P.File.path (sink_of sinks.now name) }
 {

@@ -13,15 +13,15 @@ use minelib_lines::text_name::TextName;
 use pit_compile::sinks::Sinks;
 use std::alloc::{AllocError, Global};
 
-/// Sinks for the files of the instance: `BASE.blocks` and so on. None is begun. One slot is made for each, and no other. Fails only
-/// where memory for the paths is refused; then no slot is made.
+/// Makes sinks for the files of the instance: `BASE.blocks` and so on. None is begun. Makes exactly one slot for each. Fails only
+/// if memory for the paths is refused; then no slot is made.
 pub fn sinks_of<F: FileSlots>(
     files: &mut F,
     alloc: Global,
     base: &str,
 ) -> Result<Sinks<PlacedSink<F::Slot>>, AllocError>
     ensures sinks { IfOk result (λ sinks. (name : AName)
-        → sink_of sinks name ≡ unbegun F.Slot.tells (path_to base.now (ending_of name))) }
+        → sink_of sinks name ≡ unbegun F.Slot.reports (path_to base.now (ending_of name))) }
     ensures made { OnOk result (F.made files.new
         ≡ F.made files.old ++ map (λ name. path_to base.now (ending_of name)) all_texts) }
     ensures kept { OnErr result (F.made files.new ≡ F.made files.old) }
@@ -36,7 +36,7 @@ pub fn sinks_of<F: FileSlots>(
     })
 }
 
-// The path of the file of each sink: `BASE.blocks` and so on.
+// Returns the path of each sink's file: `BASE.blocks` and so on.
 fn paths_of(alloc: Global, base: &str) -> Result<Sinks<String>, AllocError>
     ensures { IfOk result (λ paths. (name : AName)
         → string_bytes (sink_of paths name) ≡ path_to base.now (ending_of name)) }
@@ -44,7 +44,7 @@ fn paths_of(alloc: Global, base: &str) -> Result<Sinks<String>, AllocError>
     Sinks::each(|name| path_to(alloc, base, name))
 }
 
-// The path of a file of the instance.
+// Returns the path of a file of the instance.
 fn path_to(alloc: Global, base: &str, name: TextName) -> Result<String, AllocError>
     ensures { IfOk result (λ path. string_bytes path ≡ path_to base.now (ending_of name)) }
 {

@@ -1,7 +1,7 @@
-//! What holds of two runs: each contract is a law, and a call of it does nothing.
+//! Theorems about two runs. Each function does nothing; its contract states a theorem.
 
 ghost use Rattle.std.specs.Prelude.{◌≡◌, ◌++◌, ℕ, List, Some, length, map};
-ghost use Rattle.compile_command.specs.Compile.{TellsRows};
+ghost use Rattle.compile_command.specs.Compile.{ReportsRows};
 ghost use Rattle.devices.specs.files.Opening.{Opening as AnOpening, all_opened};
 ghost use Rattle.devices.specs.sinks.SinkState.{SinkState};
 ghost use Rattle.lane.specs.Whole.{GatheredView};
@@ -13,13 +13,14 @@ ghost use Rattle.plan_parts.specs.declared.settings.Settings.{Settings};
 ghost use Rattle.refusals.specs.declared.refusal.Refusal.{Refusal as ARefusal};
 ghost use Rattle.run_threads.specs.Starts.{StartsView};
 
-/// Runs of one plan over zone files of the same bytes, into sinks that told the same before, agree for every number of valuers and every
-/// capacity.
+/// Runs of the same plan over zone files with the same bytes, into sinks with the same state, agree for all numbers of valuers and
+/// all capacities.
 ///
-/// - Where two are done, the same was sent through the lane, and each sink tells the same: it has the same bytes.
-/// - Two compiles, of files that told these bytes when they were opened, also append the same line.
-/// - Where the verdict on the files refuses two, it is the same refusal.
-/// - Where one is done, the verdict refuses none.
+/// - If two runs are complete, the same messages were sent through the lane, and each sink has the same state afterwards, with the
+///   same bytes.
+/// - Two compiles of files that reported these bytes when they were opened also append the same line.
+/// - If the verdict on the files rejects two, the error is the same.
+/// - If one is complete, the verdict rejects none.
 pub fn runs_of_the_same_files_agree()
     ensures done { (plan : PlanParts) (texts : List (List ℕ)) (valuers capacity others place : ℕ)
         (old new again : AName → SinkState) (g h : GatheredView)
@@ -30,8 +31,8 @@ pub fn runs_of_the_same_files_agree()
         (starts spent begun ended : StartsView) (old new again : AName → SinkState)
         (one other : Settings) (text text_one text_other : List ℕ)
         → length texts ≡ length paths → now ≡ opened ++ all_opened paths (map Some texts)
-        → TellsRows plan paths opened now starts spent old new one text text_one
-        → TellsRows plan paths opened now begun ended old again other text text_other
+        → ReportsRows plan paths opened now starts spent old new one text text_one
+        → ReportsRows plan paths opened now begun ended old again other text text_other
         → (text_one ≡ text_other) × ((name : AName) → new name ≡ again name) }
     ensures refused { (plan : PlanParts) (texts : List (List ℕ)) (one other : ARefusal)
         → IsVerdict plan (map Some texts) one → IsVerdict plan (map Some texts) other

@@ -1,5 +1,4 @@
-//! The commands of `pitc` that make a run: the pipe form and `compile`, each up to the texts that it prints and the status that it ends
-//! with.
+//! The commands of `pitc` that make a run, which are the pipe form and `compile`: each up to the printed text and the exit status.
 #![tactic(auto)]
 
 pub mod compile;

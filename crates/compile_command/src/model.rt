@@ -1,4 +1,4 @@
-//! The model that an input gives.
+//! The model in an input.
 
 ghost use Rattle.std.specs.Prelude.{◌≡◌, IfOk, IfErr};
 ghost use Rattle.compile_command.specs.Model.{HasTooManyFiles, IsNoModel, IsRead};
@@ -16,26 +16,26 @@ use refusals::refusal::Refusal;
 use refusals::settings_fault::SettingsFault;
 use std::alloc::Global;
 
-/// A plan and the zone files that came with it.
+/// A plan with its zone files.
 #[derive(Drop)]
 pub struct Model {
     pub plan: Plan,
     pub pieces: Pieces,
 }
 
-/// Reads all bytes of a feed, such as that of standard input, and returns the model in them.
+/// Reads all bytes of a feed, such as standard input, and returns the model in them.
 ///
 /// # Errors
 ///
 /// - `FeedFailed`, `TooLong`: the input cannot be read, or has more than 256 MiB.
-/// - `TooLong`, `Plan`: its first piece gives no plan.
-/// - `Run`: it has more zone files than its plan has zones, as a run would say, so that no list of them is held; or memory was refused.
+/// - `TooLong`, `Plan`: its first part states no plan.
+/// - `Run`: it has more zone files than its plan has zones, which a run would also report, so that no list of them is stored; or
+///   memory was refused.
 #[tactic(auto, using(crate::proofs::Models::unread, crate::proofs::Models::planless, crate::proofs::Models::uncut))]
 pub fn read_model<F: Feed>(alloc: Global, feed: &mut F) -> Result<Model, Refused>
-    ensures model { IfOk result (λ model. IsRead (F.left feed.old) (F.given feed.old)
-        (F.given feed.new) (F.failures feed.old) (F.failures feed.new) model.plan model.pieces) }
-    ensures refused { IfErr result (IsNoModel (F.left feed.old) (F.given feed.old)
-        (F.given feed.new) (F.failures feed.old) (F.failures feed.new)) }
+    ensures model { IfOk result (λ model. IsRead (F.state feed.old) (F.state feed.new) model.plan
+        model.pieces) }
+    ensures refused { IfErr result (IsNoModel (F.state feed.old) (F.state feed.new)) }
 {
     let input = read_source(alloc, feed, Source::Input, MAX_FILE_BYTES as u64)?;
     let plan = stated_plan(alloc, plan_piece(input.as_slice()))?;
@@ -43,7 +43,7 @@ pub fn read_model<F: Feed>(alloc: Global, feed: &mut F) -> Result<Model, Refused
     Ok(Model { plan, pieces })
 }
 
-// The pieces of an input, if it has at most as many zone files as the plan has zones.
+// Returns the parts of an input, if its zone files are at most as many as the plan's zones.
 fn pieces_for(alloc: Global, input: &[u8], plan: &Plan) -> Result<Pieces, Refused>
     ensures pieces { IfOk result
         (λ pieces. (pieces.plan ≡ plan_piece input.now) × (pieces.zones ≡ zone_pieces input.now)) }

@@ -1,6 +1,7 @@
-//! The pipe form: from the pieces of the input to the printed instance.
+//! The pipe form: from the parts of the input to the printed instance.
 
 ghost use Rattle.std.specs.Prelude.{◌≡◌, ◌+◌, ◌↔◌, Err, Some, true, length, map, IfErr, IfOk, OnErr, OnOk};
+ghost use Rattle.devices.specs.feeds.FeedState.{all_remaining};
 ghost use Rattle.pit_compile.specs.ZoneFiles.{HasPassed};
 ghost use Rattle.pit_compile.specs.Settings.{IsSettingsFault};
 ghost use Rattle.refusals.specs.declared.settings_fault.SettingsFault.{SettingsFault as ASettingsFault};
@@ -30,17 +31,16 @@ pub const SETTINGS: Settings = Settings {
     capacity: USUAL_CAPACITY,
 };
 
-/// Appends what the pipe form prints of the model of a plan and its zone files. Returns what went through the lane.
+/// Appends what the pipe form prints for the model of a plan and its zone files. Returns the messages that passed the lane.
 ///
 /// # Errors
 ///
-/// `out` is as it was. The error is the first that applies of these; behind `Settings`, `OutOfMemory` may come in place
-/// of any.
+/// `out` is unchanged. Returns the first that applies; after `Settings`, `OutOfMemory` may replace any.
 ///
 /// - `Settings`: the zone files or the destinations are not the plan's.
 /// - `NoThread`: a thread could not be started.
-/// - `TooLong` or `Row`: the first zone file that has a fault.
-/// - `Same`: a block stands twice.
+/// - `TooLong` or `Row`: of the first zone file that has a fault.
+/// - `Same`: two blocks are in the same cell.
 pub fn pipe<R: Threads + Wait + Sync>(
     rt: &R,
     alloc: Global,
@@ -61,8 +61,8 @@ pub fn pipe<R: Threads + Wait + Sync>(
     pipe_with_starts(alloc, zones, plan, destinations, &mut starts, out)
 }
 
-/// The same, with starts that the caller lends, and which tell what became of them: `NoThread` is answered only where a start was refused
-/// before there were enough.
+/// Does the same with starts that the caller provides. Afterwards `starts` shows what happened: `NoThread` is returned only if a
+/// start was refused before there were enough threads.
 pub fn pipe_with_starts<R: Threads + Wait + Sync>(
     alloc: Global,
     zones: &[Piece],
@@ -80,23 +80,23 @@ pub fn pipe_with_starts<R: Threads + Wait + Sync>(
     ensures refused { IfErr result (PipeRefused plan.now (formulas_of destinations.now) zones.now) }
     ensures kept { OnErr result (out.new.items ≡ out.old.items) }
 
-    // What was started.
+    // The starts that were spent.
     ensures spends { SpendsStarts (4 + length zones.now) starts.old starts.new result }
 {
     require_settings(zones.len(), plan, destinations, SETTINGS)?;
-    let feeds = lent(alloc, zones)?;
+    let feeds = borrowed(alloc, zones)?;
     let compiled = compile_with_starts(alloc, feeds, plan, destinations, SETTINGS, starts)?;
     print(alloc, &compiled.instance, out)?;
     Ok(compiled.gathered)
 }
 
-// A feed of each piece, which is lent to it.
-fn lent<'a>(alloc: Global, zones: &'a [Piece]) -> Result<Vec<SliceFeed<'a>>, AllocError>
+// Makes a feed that borrows its bytes for each part.
+fn borrowed<'a>(alloc: Global, zones: &'a [Piece]) -> Result<Vec<SliceFeed<'a>>, AllocError>
     ensures count { IfOk result (λ feeds. length feeds.items ≡ length zones.now) }
-    ensures left { IfOk result (λ feeds. map (⟦<SliceFeed<'a> as Feed>⟧.left) feeds.items
+    ensures remaining { IfOk result (λ feeds. all_remaining (⟦<SliceFeed<'a> as Feed>⟧.state) feeds.items
         ≡ map Some zones.now) }
-    ensures sure { IfOk result (λ feeds. map (⟦<SliceFeed<'a> as Feed>⟧.is_sure) feeds.items
-        ≡ map (λ _. true) zones.now) }
+    ensures sure { IfOk result (λ feeds. map (λ feed. (⟦<SliceFeed<'a> as Feed>⟧.state feed).is_sure)
+        feeds.items ≡ map (λ _. true) zones.now) }
 {
     let mut feeds = Vec::with_capacity(alloc, zones.len())?;
     for zone in zones {

@@ -1,16 +1,16 @@
-//! A sink over a file, which tells a run the path of the file.
+//! A sink over a file that shows contracts the path of the file.
 
 ghost use Rattle.std.specs.Prelude.{◌≡◌};
 ghost use Rattle.devices.specs.sinks.FileSinkView.{unbegun};
-ghost use Rattle.compile_command.specs.BaseFiles.{HasFile, told_at};
+ghost use Rattle.compile_command.specs.BaseFiles.{HasFile, state_with_path};
 
 use devices::files::file_slot::FileSlot;
 use devices::sinks::file_sink::FileSink;
 use devices::sinks::sink::{Sink, SinkFault};
 use std::marker::Model;
 
-/// A sink over a file, which tells contracts the path of the file as what stands before its text. So they say of each text at which path it
-/// stands: a run, which knows nothing of paths, leaves what stands before as it is.
+/// A sink over a file. Contracts see the path of the file as the bytes before its text. A run knows no paths and never changes the
+/// bytes before a text, so contracts can state the path of each text.
 #[derive(Drop)]
 pub struct PlacedSink<P: FileSlot> {
     sink: FileSink<P>,
@@ -28,16 +28,16 @@ impl<P: FileSlot> Model for PlacedSink<P> {
 }
 
 impl<P: FileSlot> PlacedSink<P> {
-    /// A sink for the file of this slot. It is not begun. It takes no memory, and is never refused.
+    /// Makes a sink for the file of this slot. The sink is not begun. Allocates no memory, and never fails.
     pub fn from_slot(slot: P) -> PlacedSink<P>
-        ensures { result ≡ unbegun P.tells (P.path slot) }
+        ensures { result ≡ unbegun P.reports (P.path slot) }
     {
         PlacedSink {
             sink: FileSink::from_slot(slot),
         }
     }
 
-    /// The sink over the file. Once that is begun, there is a file at its path.
+    /// Returns the sink over the file. Once it is begun, there is a file at its path.
     pub fn sink(&self) -> &FileSink<P>
         ensures same { result.now ≡ self.now }
         ensures there { HasFile P.File.path self.now }
@@ -47,14 +47,14 @@ impl<P: FileSlot> PlacedSink<P> {
 }
 
 impl<P: FileSlot> Sink for PlacedSink<P> {
-    ghost state = { told_at };
+    ghost state = { state_with_path };
 
-    /// As of the sink over the file.
+    /// Like the sink over the file.
     fn begin(&mut self) -> Result<(), SinkFault> {
         self.sink.begin()
     }
 
-    /// As of the sink over the file.
+    /// Like the sink over the file.
     fn put(&mut self, bytes: &[u8]) -> Result<usize, SinkFault> {
         self.sink.put(bytes)
     }

@@ -1,4 +1,4 @@
-//! The line that the program writes of a refused run, and the status that it ends with.
+//! The line that the program prints for a failed run, and the exit status.
 
 ghost use Rattle.std.specs.Prelude.{◌≡◌, ◌++◌, IfOk, OnOk, OnErr};
 ghost use Rattle.command_io.specs.FaultLine.{program_line};
@@ -10,8 +10,7 @@ use command_io::refused::fault_line::append_line;
 use refusals::refusal::Refusal;
 use std::alloc::{AllocError, Global};
 
-/// Appends the line of a refusal, and answers the status that it ends the program with. Fails only where memory is refused, and then
-/// `lines` is as it was.
+/// Appends the line of an error, and returns the exit status. Fails only if memory is refused; then `lines` is unchanged.
 pub fn refusal_line(alloc: Global, refusal: &Refusal, lines: &mut Vec<u8>) -> Result<u8, AllocError>
     ensures status { IfOk result (λ status. status ≡ run_status refusal.now) }
     ensures appends { OnOk result

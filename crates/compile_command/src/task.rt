@@ -1,4 +1,4 @@
-//! A model to be compiled, by the pipe form or from files to files.
+//! A model to compile, by the pipe form or from files to files.
 
 ghost use Rattle.std.specs.Prelude.{◌≡◌, ◌+◌, length, IfErr, OnErr, OnOk};
 ghost use Rattle.plan_parts.specs.Destinations.{formulas_of};
@@ -11,7 +11,7 @@ use crate::compile_at::{Ended, compile_at};
 use crate::model::Model;
 use crate::pipe_form::pipe_with_starts;
 use command_io::refused::Refused;
-use command_io::refused::fault_line::tell;
+use command_io::refused::fault_line::report;
 use devices::files::file_slot::FileSlots;
 use devices::files::opener::Opener;
 use pit_compile::Starts;
@@ -22,12 +22,12 @@ use std::alloc::Global;
 use std::sync::Wait;
 use std::thread::Threads;
 
-/// A model to be compiled.
+/// A model to compile.
 #[derive(Drop)]
 pub enum Task {
-    /// The model that an input gave, whose texts are printed.
+    /// The model in an input, whose instance is printed.
     Pipe(Model),
-    /// A plan with the paths of its zone files, whose texts are written to the files of BASE.
+    /// A plan with the paths of its zone files, whose instance is written to the files of BASE.
     Files {
         plan: Plan,
         settings: Settings,
@@ -37,7 +37,7 @@ pub enum Task {
 }
 
 impl Task {
-    /// The plan of the model.
+    /// Returns the plan of the model.
     pub fn plan(&self) -> &Plan
         ensures { result.now ≡ plan_in self.now }
     {
@@ -47,8 +47,8 @@ impl Task {
         }
     }
 
-    /// Compiles the model with these destinations, and answers how that ended. Where the status is 0 it appends to `text` what standard
-    /// output is to have, and else to `lines` what standard error is to have. Only for files it asks for files and slots.
+    /// Compiles the model with these destinations, and returns the end of the task. With the status 0 it appends the text for
+    /// standard output to `text`, else the line for standard error to `lines`. Only a task with files opens files and makes slots.
     pub fn run<R: Threads + Wait + Sync, O: Opener, F: FileSlots>(
         &self,
         alloc: Global,
@@ -61,10 +61,10 @@ impl Task {
     ) -> Ended<F::Slot>
         requires unspent { starts.old ≡ none_spent starts.old.allowed }
         ensures ends { IsDoneOrRefused (IsTaskDone (O.opened files.old) (O.opened files.new)
-            (F.made slots.old) (F.made slots.new) starts.old starts.new F.Slot.tells self.now
+            (F.made slots.old) (F.made slots.new) starts.old starts.new F.Slot.reports self.now
             result.sinks) (IsNoTask (O.opened files.old) (O.opened files.new) (F.made slots.old)
-            (F.made slots.new) starts.old starts.new F.Slot.tells O.Opened.left O.Opened.is_sure
-            O.Opened.failures self.now (formulas_of destinations.now) result.sinks)
+            (F.made slots.new) starts.old starts.new F.Slot.reports O.Opened.state self.now
+            (formulas_of destinations.now) result.sinks)
             text.old.items text.new.items lines.old.items lines.new.items result.status }
         ensures settled { AreSettled starts.old starts.new }
     {
@@ -72,7 +72,7 @@ impl Task {
             Task::Pipe(model) => {
                 let status = match run_pipe(alloc, model, destinations, starts, text) {
                     Ok(()) => 0,
-                    Err(refused) => tell(alloc, &refused, lines),
+                    Err(refused) => report(alloc, &refused, lines),
                 };
                 Ended {
                     status,
@@ -101,7 +101,7 @@ impl Task {
     }
 }
 
-// Appends what the pipe form prints of the model to `text`. Where it is refused `text` is as it was.
+// Appends what the pipe form prints for the model to `text`. After an error `text` is unchanged.
 fn run_pipe<R: Threads + Wait + Sync>(
     alloc: Global,
     model: &Model,

@@ -1,4 +1,4 @@
-pub mod Fronts
 pub mod Giving
+pub mod Prefixes
 pub mod ReadGiven
 pub mod WriteFacts

@@ -9,7 +9,7 @@ added more taken = option_map (λ bytes. bytes ++ more) taken
 abbrev pub holding : List ℕ → Option (List ℕ) → Option (List ℕ)
 holding text taken = option_map (λ _. text) taken
 
--- the bytes taken now are a prefix of the whole
-pub record IsFront (now whole : Option (List ℕ)) : Type 0 where
+-- the bytes taken now are a prefix of all the bytes
+pub record IsTakenPrefix (now whole : Option (List ℕ)) : Type 0 where
   pub rest : List ℕ
   pub joined : whole ≡ added rest now

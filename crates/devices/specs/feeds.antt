@@ -1,4 +1,5 @@
 pub mod Feed
+pub mod FeedState
 pub mod FeedSteps
 pub mod FileFeedView
 pub mod MemFeedView

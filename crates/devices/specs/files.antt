@@ -1,3 +1,3 @@
 pub mod Asked
 pub mod Opening
-pub mod Told
+pub mod Reported

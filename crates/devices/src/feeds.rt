@@ -1,4 +1,4 @@
-//! Feeds, which give bytes, and reading a feed to its end.
+//! Feeds, which give bytes, and a reader that reads a feed to its end.
 
 pub mod feed;
 pub mod file_feed;

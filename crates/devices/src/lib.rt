@@ -1,4 +1,4 @@
-//! Feeds that give bytes and sinks that take a text, as files or bytes in memory. Reads a feed whole, and writes a text whole in large
+//! Feeds that give bytes and sinks that take a text, as files or bytes in memory. Reads a feed to its end, and writes a text in large
 //! slices.
 #![tactic(auto)]
 

@@ -1,4 +1,4 @@
-//! Sinks, which take a text, and writing a whole text in large slices.
+//! Sinks, which take a text, and a writer of texts in large slices.
 
 pub mod file_sink;
 pub mod mem_sink;

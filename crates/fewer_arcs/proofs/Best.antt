@@ -1,4 +1,4 @@
--- The best pits and schedules are the same, and none is worth more than the ultimate pit.
+-- The best pits and schedules are the same, and none has a larger value than the ultimate pit.
 use Rattle.std.proofs.Common.{◌≡◌, ℕ, zero, suc, ◌+◌, ◌-◌, ◌*◌, ◌<◌, ◌≤◌, ◌↔◌, Bool, true, false, if◌then◌else◌, ltb, min, List, ℤ, pos, ◌+ℤ◌, ◌*ℤ◌, ◌≤ℤ◌, arith, refl, sym, ap, ◌∙◌, subst, add-mul, zero-mul, mul-zero, mul-add}
 use Rattle.std.proofs.lemmas.Bool.{ltb-false, ltb-true, lt-ltb}
 use Rattle.std.proofs.lemmas.Int.{ints}
@@ -10,7 +10,7 @@ use Rattle.fewer_arcs.specs.Optima.{sum, count, IsBest, pit_value, schedule_valu
 use Rattle.fewer_arcs.proofs.Sums.{none_of, one_more, sum_le, sum_of_two, sum_same, sum_times, times_more, times_mono, times_times}
 use Rattle.fewer_arcs.proofs.Told.{mined_back, mined_there, pit_back, pit_there, schedule_back, schedule_there}
 
--- of the same choices the same are the best
+-- equal choices have equal best choices
 best_of : {X : Type 0} (P Q : X → Type 0) (worth : X → ℤ) → ((x : X) → P x → Q x) → ((x : X) → Q x → P x)
     → (x : X) → IsBest P worth x → IsBest Q worth x
 best_of P Q worth there back x best = (there x best.0, λ other own. best.1 other (back other own))
@@ -56,7 +56,7 @@ no_weight weight fall period =
     let all : 0 + period ≡ period = omega arith in
     omega (arith, falls_to 0 weight fall 0 period, ap weight all, fall.ends)
 
--- a weight is the one of the last period, where it comes by its end, and what it has more
+-- a weight is the last period's weight for a block mined by its end, plus the weight above it
 abbrev lower : (weight : ℕ → ℕ) (last : ℕ) → ℕ → ℕ
 lower weight last period = weight period - weight last
 
@@ -74,7 +74,7 @@ module _ (lists : List (List ℕ)) (n : ℕ) (value : ℕ → ℤ) (pit : ℕ �
   no_value f none = sum_same n (λ b. pos (f b) *ℤ value b) (λ b. pos 0 *ℤ value b) (λ b. ap (λ k. pos k *ℤ value b) (none b))
       ∙ sum_times n 0 value ∙ none_of (sum n value)
 
-  -- what is mined as whole blocks in periods
+  -- the value of undivided blocks in periods
   module _ (period_of : ℕ → ℕ) (is : IsSchedule lists period_of) where
     abbrev by_end : ℕ → ℕ → Bool
     by_end last b = ltb (period_of b) (suc last)
@@ -124,11 +124,11 @@ module _ (lists : List (List ℕ)) (n : ℕ) (value : ℕ → ℤ) (pit : ℕ �
         let all = times_more (weight last) (lower weight last 0) most in
         omega (arith, ints, cut, pits, one, schedule_below last (lower weight last) (lower_falls last weight fall), all, ap (λ k. pos k *ℤ most) whole)
 
-  -- what is mined as shares: amounts that keep the order, up to some unit
+  -- the value of shares: amounts in order, up to some unit
   abbrev KeepOrder : (ℕ → ℕ) → Type 0
   KeepOrder amount = (b c : ℕ) → HasArc lists b c → amount b ≤ amount c
 
-  -- a unit is its last part, which blocks have that are mined whole, and the parts below it
+  -- a unit is its last part, for the blocks that are mined completely, and the parts below it
   part_below : (unit : ℕ) (amount : ℕ → ℕ) → KeepOrder amount → ((b : ℕ) → amount b ≤ unit)
       → (sum n (λ b. pos (amount b) *ℤ value b)) ≤ℤ (pos unit *ℤ most)
   part_below zero amount order few =
@@ -159,7 +159,7 @@ module _ (lists : List (List ℕ)) (n : ℕ) (value : ℕ → ℤ) (pit : ℕ �
           let cut : min (amount b) unit ≡ amount b = omega (arith, ltb-false unit (amount b) e) in
           omega (arith, ints, ap (λ k. pos k *ℤ value b) cut)
 
-  -- a sum by the weights of periods is one by what they have above the last weight, and that weight of all
+  -- a sum by the weights of periods is the sum by the weights above the last weight, plus the last weight of all
   weighed : (periods last : ℕ) (weight : ℕ → ℕ) (f : ℕ → ℕ) → ((period : ℕ) → period < periods → weight last ≤ weight period)
       → count periods (λ period. weight period * f period)
       ≡ weight last * count periods f + count periods (λ period. lower weight last period * f period)
@@ -205,7 +205,7 @@ module _ (lists : List (List ℕ)) (n : ℕ) (value : ℕ → ℤ) (pit : ℕ �
             ap (λ k. pos k *ℤ value b) split ∙ times_more (weight last * count (suc last) (f b)) (amounts last (lower weight last) b) (value b)
             ∙ ap (λ x. x +ℤ (pos (amounts last (lower weight last) b) *ℤ value b)) (times_times (weight last) (count (suc last) (f b)) (value b))
 
-  -- shares at destinations where no block is worth more than its value
+  -- shares at destinations at which no block has a value above its value in the pit
   module _ (destinations : ℕ) (worth : ℕ → ℕ → ℤ) (above : (b d : ℕ) → d < destinations → (worth b d) ≤ℤ (value b)) where
     at_all : (upto : ℕ) → upto ≤ destinations → (b w : ℕ) (share : ℕ → ℕ)
         → (sum upto (λ d. pos (w * share d) *ℤ worth b d)) ≤ℤ (pos (w * count upto share) *ℤ value b)

@@ -1,7 +1,5 @@
 pub mod Best
-pub mod Enough
 pub mod Members
-pub mod Moved
 pub mod One
 pub mod Same
 pub mod SomeLeft

@@ -1,7 +1,7 @@
--- A list leaves some in one way alone.
+-- A list has one reduced list only.
 use Rattle.std.proofs.Common.{◌≡◌, ℕ, List, Contains, ⊎_elim}
 use Rattle.fewer_arcs.specs.Left.{IsLeft}
-use Rattle.fewer_arcs.proofs.Members.{one_list}
+use Rattle.precedence.proofs.Members.{one_list}
 
 module _ (lists : List (List ℕ)) (list : List ℕ) where
   there_too : (one other : List ℕ) → IsLeft lists list one → IsLeft lists list other → (c : ℕ) → Contains one c → Contains other c

@@ -1,4 +1,4 @@
--- What is left of lists says the same.
+-- Reduced lists are equivalent to the lists.
 use Rattle.std.proofs.Common.{◌≡◌, ℕ, ◌+◌, ◌<◌, ◌≤◌, zero, suc, true, List, [], Contains, get_or, length, subst, sym, ap, ◌∙◌, arith, inl, inr, ⊎_elim, ◌⊎◌}
 use Rattle.std.proofs.lemmas.Bool.{cases_lt}
 use Rattle.std.proofs.lemmas.List.{get_or-map, get_or_past, length-map}
@@ -8,7 +8,7 @@ use Rattle.fewer_arcs.specs.Left.{IsBehind, IsLeft, Rise}
 use Rattle.fewer_arcs.specs.SayTheSame.{HaveWays, SaysTheSame}
 use Rattle.fewer_arcs.proofs.SomeLeft.{is_left, left_among, left_apart, left_or_behind}
 
--- a list that is not there is empty, and so is what is left of it
+-- a missing list is empty, and so is its reduced list
 pub own_left : (lists : List (List ℕ)) (b : ℕ) → get_or (fewer lists) b [] ≡ left_of lists (get_or lists b [])
 own_left lists b = ⊎_elim
     (λ lt. get_or-map (left_of lists) lists b [] [] lt)
@@ -21,7 +21,7 @@ module _ (lists : List (List ℕ)) where
   pub among : (b c : ℕ) → HasArc (fewer lists) b c → HasArc lists b c
   among b c has = left_among lists (get_or lists b []) c (subst (λ list. Contains list c) (own_left lists b) has)
 
-  -- no predecessor of b has one in its list that is left
+  -- a retained predecessor of b is a predecessor of none of b's predecessors
   pub apart : (b c d : ℕ) → HasArc (fewer lists) b c → HasArc lists b d → HasArc lists d c → ⊥
   apart b c d has own arc =
       left_apart lists (get_or lists b []) c (subst (λ list. Contains list c) (own_left lists b) has) (d, own, arc)
@@ -37,7 +37,7 @@ module _ (lists : List (List ℕ)) where
       subst (λ list. IsLeft lists (get_or lists b []) list) (sym (own_left lists b)) (is_left lists (get_or lists b []) (rise b lt))
 
   module _ (later : ComeLater lists) where
-    -- whatever the relation: a dropped arc is two arcs, both of which are shorter
+    -- any relation: a dropped arc is two arcs, both of which are shorter
     module _ (R : ℕ → ℕ → Type 0) (through : (a b c : ℕ) → R a b → R b c → R a c) (along : (b c : ℕ) → HasArc (fewer lists) b c → R b c) where
       holds_near : (k b c : ℕ) → c ≤ b + k → HasArc lists b c → R b c
       holds_near zero b c le has = absurd (let less = later b c has in omega arith)

@@ -1,4 +1,4 @@
--- What is left of a list.
+-- The reduced list.
 use Rattle.std.proofs.Common.{◌≡◌, ℕ, ◌≤◌, Bool, true, false, not, List, Contains, length, refl, sym, ap, ◌∙◌, arith, inl, inr, ⊎_elim, ◌⊎◌}
 use Rattle.std.specs.List.Sorted.{IsStrictlyIncreasing}
 use Rattle.std.proofs.lemmas.Bool.{cases_Bool}
@@ -7,7 +7,8 @@ use Rattle.std.proofs.lemmas.List.Kept.{IsStrictlyIncreasing-filter}
 use Rattle.precedence.specs.Behind.{is_behind}
 use Rattle.fewer_arcs.specs.Fewer.{left_of}
 use Rattle.fewer_arcs.specs.Left.{IsBehind, IsLeft, StandForAll}
-use Rattle.fewer_arcs.proofs.Members.{behind_true, kept_from, kept_in, true_behind}
+use Rattle.precedence.proofs.Members.{kept_from, kept_in}
+use Rattle.fewer_arcs.proofs.Members.{behind_true, true_behind}
 
 module _ (lists : List (List ℕ)) (list : List ℕ) where
   abbrev free : ℕ → Bool
@@ -31,7 +32,7 @@ module _ (lists : List (List ℕ)) (list : List ℕ) where
       (λ no. inl (kept_in free list c has (ap not no)))
       (cases_Bool (is_behind lists list c))
 
-  -- no more is left than there was
+  -- a reduced list is no longer than the list
   pub few_left : length (left_of lists list) ≤ length list
   few_left = omega (arith, length-filter_both free (is_behind lists list) (λ c. twice (is_behind lists list c)) list)
     where

@@ -1,11 +1,11 @@
--- No arc that is left can be spared where lists are closed.
+-- No retained arc can be spared if the lists are closed.
 use Rattle.std.proofs.Common.{ℕ, zero, suc, List}
 use Rattle.precedence.specs.Closed.{AreClosed, HasArc, Way}
 use Rattle.fewer_arcs.specs.Fewer.{fewer}
 use Rattle.fewer_arcs.specs.SayTheSame.{AreAmong, HaveWays}
 use Rattle.fewer_arcs.proofs.Same.{among, apart}
 
--- a way along some arcs is one along all
+-- a path along some arcs is a path along all
 way_among : (lists some : List (List ℕ)) → AreAmong some lists → (n b c : ℕ) → Way some n b c → Way lists n b c
 way_among lists some are zero b c arc = are b c arc
 way_among lists some are (suc n) b c way = (way.0, are b way.0 way.1, way_among lists some are n way.0 c way.2)

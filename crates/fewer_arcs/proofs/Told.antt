@@ -1,4 +1,4 @@
--- What fewer arcs say of pits, of periods and of what is mined by their ends.
+-- Pits, periods and mined shares by reduced lists.
 use Rattle.std.proofs.Common.{◌≡◌, ℕ, ◌≤◌, Bool, true, List, arith}
 use Rattle.fewer_arcs.specs.Fewer.{fewer}
 use Rattle.fewer_arcs.specs.Mined.{IsMinedInOrder, IsPit, IsSchedule}

@@ -3,4 +3,3 @@ pub mod Left
 pub mod Mined
 pub mod Optima
 pub mod SayTheSame
-pub mod inner

@@ -1,4 +1,4 @@
--- Lists of predecessors, one for each block by identifier, that say the same.
+-- Equivalent lists of predecessors, with a list for each block by identifier.
 use Rattle.std.specs.Prelude.{◌≡◌, ℕ, Bool, true, List}
 use Rattle.precedence.specs.Closed.{HasArc, Way}
 
@@ -17,10 +17,10 @@ HoldsAlong R lists = (b c : ℕ) → HasArc lists b c → R b c ≡ true
 abbrev pub SaysTheSame : List (List ℕ) → List (List ℕ) → Type 0
 SaysTheSame lists fewer = (R : Relation) → IsTransitive R → HoldsAlong R fewer → HoldsAlong R lists
 
--- where `lists` have an arc, `fewer` have a way
+-- `fewer` have a path for each arc of `lists`
 abbrev pub HaveWays : List (List ℕ) → List (List ℕ) → Type 0
 HaveWays lists fewer = (b c : ℕ) → HasArc lists b c → (n : ℕ) × Way fewer n b c
 
--- each arc of `some` is one of `lists`
+-- each arc of `some` is an arc of `lists`
 abbrev pub AreAmong : List (List ℕ) → List (List ℕ) → Type 0
 AreAmong some lists = (b c : ℕ) → HasArc some b c → HasArc lists b c

@@ -1,4 +1,4 @@
-//! What holds of what is left, whatever the lists: each contract is a law, and a call of it does nothing.
+//! Theorems about reduced lists, for all lists. Each contract is a theorem; a call does nothing.
 
 ghost use Rattle.std.specs.Prelude.{◌≡◌, ◌↔◌, ℕ, ◌*◌, ◌<◌, Bool, List, [], All, Contains, length, slice_index_or, ℤ, pos, ◌*ℤ◌, ◌≤ℤ◌};
 ghost use Rattle.precedence.specs.Closed.{AreClosed, ComeLater};
@@ -6,7 +6,7 @@ ghost use Rattle.precedence.specs.Cone.{preds};
 ghost use Rattle.precedence.specs.Zones.{HasZones};
 ghost use Rattle.precedence.specs.Numbering.{IsNumbering, NumberingView};
 ghost use Rattle.plan_parts.specs.Plan.{PlanParts};
-ghost use Rattle.plan_parts.specs.PlanKept.{IsCone};
+ghost use Rattle.plan_parts.specs.PlanInvariant.{IsCone};
 ghost use Rattle.plan_parts.specs.declared.block.Block.{Block};
 ghost use Rattle.plan_parts.specs.declared.cone.Cone.{Cone};
 ghost use Rattle.fewer_arcs.specs.Fewer.{fewer, left_of};
@@ -17,33 +17,33 @@ ghost use Rattle.fewer_arcs.specs.SayTheSame.{AreAmong, HaveWays, SaysTheSame};
 
 use precedence::laws::{preds_come_later, preds_rise};
 
-/// What is left of lists says the same as the lists: every transitive relation that holds along all of its arcs holds along all of
-/// theirs, since where they have an arc it has a way.
+/// Guarantees that reduced lists are equivalent to the lists: every transitive relation that holds along each retained arc holds along
+/// each arc, because the retained arcs have a path for each arc.
 pub fn fewer_say_the_same()
     ensures same { (lists : List (List ℕ)) → ComeLater lists → SaysTheSame lists (fewer lists) }
     ensures ways { (lists : List (List ℕ)) → ComeLater lists → HaveWays lists (fewer lists) }
 {}
 
-/// The pits are the same.
+/// Guarantees that reduced lists have the same pits.
 pub fn pits_are_the_same()
     ensures { (lists : List (List ℕ)) (pit : ℕ → Bool) → ComeLater lists
         → (IsPit (fewer lists) pit ↔ IsPit lists pit) }
 {}
 
-/// Shares of blocks that are mined by the end of each period, as a CPIT and a PCPSP have them, keep the order of what is left just where
-/// they keep that of the lists.
+/// Guarantees that shares of blocks that are mined by the end of each period, as in CPIT and PCPSP, respect the reduced lists exactly if
+/// they respect the lists.
 pub fn mined_in_the_same_order()
     ensures { (lists : List (List ℕ)) (mined : ℕ → ℕ → ℕ) → ComeLater lists
         → (IsMinedInOrder (fewer lists) mined ↔ IsMinedInOrder lists mined) }
 {}
 
-/// The schedules of whole blocks are the same.
+/// Guarantees that reduced lists have the same schedules of undivided blocks.
 pub fn schedules_are_the_same()
     ensures { (lists : List (List ℕ)) (period_of : ℕ → ℕ) → ComeLater lists
         → (IsSchedule (fewer lists) period_of ↔ IsSchedule lists period_of) }
 {}
 
-/// The reduced lists have the same optima of UPIT, CPIT and PCPSP as all lists, for any values, weights of periods and limits.
+/// Guarantees that reduced lists have the same optima of UPIT, CPIT and PCPSP, for any values, weights of periods and limits.
 pub fn optima_are_the_same()
     ensures upit { (lists : List (List ℕ)) (n : ℕ) (value : ℕ → ℤ) (pit : ℕ → Bool) → ComeLater lists
         → (IsUltimatePit (fewer lists) n value pit ↔ IsUltimatePit lists n value pit) }
@@ -56,8 +56,9 @@ pub fn optima_are_the_same()
         ↔ AreBestShares lists are_within unit n periods destinations weight value shares) }
 {}
 
-/// No schedule is worth more than the ultimate pit mined in the first period. The weights of periods must not rise, as those of discounting,
-/// and no destination may be worth more than the block's value in the pit. Undiscounted, every weight is one.
+/// Guarantees that no schedule has a larger value than the ultimate pit mined in the first period. The weights of periods must never
+/// rise, as with discounting, and must be 0 after the last period. Without discounting, each period's weight is 1. No destination may
+/// have a larger value for a block than the block's value in the pit.
 pub fn no_schedule_is_worth_more()
     ensures whole { (lists : List (List ℕ)) (n periods : ℕ) (weight : ℕ → ℕ) (value : ℕ → ℤ) (pit : ℕ → Bool) (period_of : ℕ → ℕ)
         → Fall periods weight → IsUltimatePit lists n value pit → IsSchedule lists period_of
@@ -69,34 +70,35 @@ pub fn no_schedule_is_worth_more()
         → (shares_value n periods destinations weight worth shares) ≤ℤ (pos (weight 0 * unit) *ℤ pit_value n value pit) }
 {}
 
-/// Of lists that rise, what is left of each is some of it in its order. Each dropped block stands in the list of another one of it, and
-/// none that is left does.
+/// Guarantees that the reduced list of a strictly ascending list is a part of it in its order. Each dropped block is a predecessor of
+/// another block of the list, and no retained block is.
 pub fn some_are_left()
     ensures { (lists : List (List ℕ)) (b : ℕ) → Rise lists → b < length lists
         → IsLeft lists (slice_index_or lists b []) (slice_index_or (fewer lists) b []) }
 {}
 
-/// No other part of a list is left so.
+/// Guarantees that the reduced list is the only such part of a list.
 pub fn left_in_one_way()
     ensures { (lists : List (List ℕ)) (list one other : List ℕ)
         → IsLeft lists list one → IsLeft lists list other → one ≡ other }
 {}
 
-/// Where each block of a list is among some of them or stands in the list of one of these, as when those are dropped that stand in the
-/// list of one that is left before them, all that is left is among these too.
+/// Guarantees that a covering set of a list contains the reduced list. In a covering set, each block of the list is a member or a
+/// predecessor of a member. Dropping a block only if it is a predecessor of a block retained before it leaves such a set.
 pub fn none_leave_less()
     ensures { (lists : List (List ℕ)) (list some : List ℕ) → StandForAll lists list some
         → (c : ℕ) → Contains (left_of lists list) c → Contains some c }
 {}
 
-/// Where lists are closed, no arc that is left can be spared: each stands in any other choice of their arcs that has a way where the
-/// lists have an arc.
+/// Guarantees that no retained arc can be spared, if the lists are closed: every other choice of arcs with a path for each arc of the
+/// lists contains it.
 pub fn none_can_be_spared()
     ensures { (lists other : List (List ℕ)) → AreClosed lists
         → AreAmong other lists → HaveWays lists other → AreAmong (fewer lists) other }
 {}
 
-/// Where all zones have one cone, the predecessors of a model's blocks are closed, so that what is left of them is the least.
+/// Guarantees that the predecessor lists of a model are closed, if all zones have the same cone. So none of their retained arcs can be
+/// spared.
 pub fn one_cone_is_closed()
     ensures { (plan : PlanParts) (blocks : List Block) (cone : Cone) → IsCone cone → All (λ own. own ≡ cone) plan.cones
         → HasZones plan blocks → AreClosed (preds plan blocks) }
@@ -104,7 +106,8 @@ pub fn one_cone_is_closed()
     precedence::laws::one_cone_is_closed();
 }
 
-/// The predecessors of a model's blocks are such lists: each has a greater identifier than its block, and each list rises strictly.
+/// Guarantees that the predecessor lists of a model meet these conditions: each predecessor has a larger identifier than its block, and
+/// each list is strictly ascending.
 pub fn preds_come_later_and_rise()
     ensures later { (plan : PlanParts) (listed : List Block) (n : NumberingView)
         → IsNumbering listed n → ComeLater (preds plan n.blocks) }

@@ -1,4 +1,4 @@
-//! Lists of predecessors, of which those are left that stand in the list of no other one.
+//! Reduced lists of predecessors: a predecessor of a block is dropped if it is also a predecessor of another of the block's predecessors.
 #![tactic(auto)]
 
 mod fewer_preds;

@@ -1,4 +1,4 @@
--- One step further along the blocks, the resources and the rows of values.
+-- Steps along the blocks, the resources and the rows of values.
 use Rattle.std.proofs.Common.{◌≡◌, ℕ, suc, ◌+◌, ◌*◌, ◌<◌, ◌≤◌, Bool, true, false, cond, List, [], ◌∷◌, ◌++◌, length, map, take, get_or, All, Option, Some, refl, sym, ◌∙◌, ap, arith, append_assoc, append-nil, length-append, eq-eqb, zero-mul, ⊎_elim}
 use Rattle.std.specs.Prelude.{filter, slice_get, slice_index, ◌==◌}
 use Rattle.std.specs.List.{cons_option, flat_map, filter_map, range_with_len, enumerate_from, list_any}
@@ -19,12 +19,12 @@ use Rattle.precedence.proofs.runs.RunsOfRows.{range_more}
 use Rattle.mine_instance.specs.OfModel.{block_of_id, by_identifier}
 use Rattle.mine_instance.specs.coefs.CoveredPairs.{covers, pair_with, covering}
 
--- the pairs of one destination more
+-- the pairs of the next destination
 pub pairs_next : (resources : List Resource) (d : ℕ)
     → flat_map (covering resources) (range_with_len 0 (d + 1)) ≡ flat_map (covering resources) (range_with_len 0 d) ++ covering resources d
 pairs_next resources d = rw (range_more 0 d d (omega arith), flat_map-append, append-nil)
 
--- the lists of numbered elements, with that of one more
+-- the lists of numbered elements, with the list of the next element
 pub numbered_next : {X A : Type 0} (f : ℕ × X → List A) (xs : List X) (i : ℕ) (x : X) → i < length xs → x ≡ get_or xs i x
     → flat_map f (enumerate_from 0 (take (i + 1) xs)) ≡ flat_map f (enumerate_from 0 (take i xs)) ++ f (i, x)
 numbered_next f xs i x h is = rw (numbered_more xs i x h is, flat_map-append, append-nil)
@@ -34,14 +34,14 @@ one_pair : (d i : ℕ) (r : Resource) (b : Bool)
 one_pair d i r true = refl
 one_pair d i r false = refl
 
--- the pairs of one resource more
+-- the pairs of the next resource
 pub covering_next : (resources : List Resource) (d i : ℕ) (r : Resource) → i < length resources → r ≡ get_or resources i r
     → covering (take (i + 1) resources) d ≡ covering (take i resources) d ++ cond (list_any (λ e. e == d) r.covers) ((d, i) ∷ []) []
 covering_next resources d i r h is =
     rw (numbered_more resources i r h is, filter-append, map-append)
     (ap (λ last. covering (take i resources) d ++ last) (one_pair d i r (covers d (i, r))))
 
--- of each destination no more pairs than there are resources
+-- a destination's pairs are at most as many as the resources
 pub pairs_few : (resources : List Resource) (a n : ℕ) → length resources ≤ 8
     → length (flat_map (covering resources) (range_with_len a n)) ≤ n * 8
 pairs_few resources a n few =
@@ -61,7 +61,7 @@ pairs_few resources a n few =
           length-enumerate_from 0 resources,
         )
 
--- lists of one length, one after the other
+-- concatenated lists of the same length
 pub length-flat : {X A : Type 0} (f : X → List A) (width : ℕ) → ((x : X) → length (f x) ≡ width) → (xs : List X)
     → length (flat_map f xs) ≡ length xs * width
 length-flat f width each [] = sym (zero-mul width)
@@ -71,7 +71,7 @@ length-flat f width each (x ∷ xs) =
     let one : length (f x) ≡ width = each x in
     grind arith)
 
--- the block of an identifier is the one of the numbering
+-- the block with an identifier is the block in the numbering
 block_found : (listed : List Block) (n : NumberingView) → IsNumbering listed n → (k : ℕ) (d : Block) → k < length n.blocks
     → block_of_id listed k ≡ Some (get_or n.blocks k d)
 block_found listed n is k d h =
@@ -90,7 +90,7 @@ block_found listed n is k d h =
     (λ g. eq-eqb _ _ (ap (id listed) (is.stands k d low) ∙ is.identifiers k d low)))
     ∙ slice_get-get_or listed q d within ∙ ap Some (is.stands k d low)
 
--- where each element is found at its number, the list of what is found
+-- if each number finds its element, the list of found elements
 all_found : {X : Type 0} (f : ℕ → Option X) (a : ℕ) (xs : List X) → ((k : ℕ) (d : X) → k < length xs → f (a + k) ≡ Some (get_or xs k d))
     → filter_map f (range_with_len a (length xs)) ≡ xs
 all_found f a [] each = refl
@@ -100,14 +100,14 @@ all_found f a (x ∷ xs) each =
     ∙ ap (λ rest. x ∷ rest) (all_found f (a + 1) xs (λ k d h.
     let next : (a + 1) + k ≡ a + suc k = omega arith in ap f next ∙ each (suc k) d (omega arith)))
 
--- blocks by identifier are those of the numbering
+-- blocks in order of identifier are the blocks of the numbering
 pub by_identifier_is : (listed : List Block) (n : NumberingView) → IsNumbering listed n → by_identifier listed ≡ n.blocks
 by_identifier_is listed n is =
     ap (λ m. filter_map (block_of_id listed) (range_with_len 0 m)) (sym is.blocks)
     ∙ all_found (block_of_id listed) 0 n.blocks (λ k d h.
     let here : 0 + k ≡ k = omega arith in ap (block_of_id listed) here ∙ block_found listed n is k d h)
 
--- a list that grew by one piece
-pub grown : {X : Type 0} (base old new front more next : List X) → new ≡ old ++ more → old ≡ base ++ front → next ≡ front ++ more
+-- a list that grew by one part
+pub grown : {X : Type 0} (base old new prefix more next : List X) → new ≡ old ++ more → old ≡ base ++ prefix → next ≡ prefix ++ more
     → new ≡ base ++ next
-grown base old new front more next added is e = rw (added, is, e, append_assoc)
+grown base old new prefix more next added is e = rw (added, is, e, append_assoc)

@@ -1,4 +1,4 @@
--- Where the values of a block stand among those of all.
+-- The positions of a block's values among all values.
 use Rattle.std.proofs.Common.{◌≡◌, ℕ, zero, suc, ◌+◌, ◌*◌, ◌<◌, ◌≤◌, List, [], ◌∷◌, ◌++◌, length, take, drop, get_or, refl, sym, ◌∙◌, ap, add-one, arith, zero-mul, All, length-drop, length-take-le}
 use Rattle.std.proofs.Math.Nat.{mul-le-mul_right}
 use Rattle.std.specs.List.{flat_map}
@@ -11,7 +11,7 @@ pub length-by_block : {A : Type 0} (n width : ℕ) (items : List A) → length (
 length-by_block zero width items = refl
 length-by_block (suc n) width items = ap suc (length-by_block n width (drop width items))
 
--- those of a block end where those of the next begin
+-- the values of a block end where the values of the next block begin
 pub block_within : (i n width : ℕ) → i < n → i * width + width ≤ n * width
 block_within i n width h = grind (arith, mul-le-mul_right)
 
@@ -23,7 +23,7 @@ get_or-by_block (suc n) width (suc i) items h =
     get_or-by_block n width i (drop width items) (omega arith)
     ∙ ap (take width) (drop-drop (i * width) width items ∙ ap (λ k. drop k items) (grind arith))
 
--- each block has so many
+-- each block has `width` values
 pub blocks_have_width : {A : Type 0} (n width : ℕ) (items : List A) → length items ≡ n * width
     → All (λ values. length values ≡ width) (by_block n width items)
 blocks_have_width n width items whole =
@@ -35,11 +35,11 @@ blocks_have_width n width items whole =
         ap length (get_or-by_block n width k items h)
         ∙ length-take-le width (drop (k * width) items) (omega (arith, length-drop (k * width) items))
 
--- the items behind those of the first block
+-- the items after the first block's
 rest_whole : {A : Type 0} (n width : ℕ) (items : List A) → length items ≡ suc n * width → length (drop width items) ≡ n * width
 rest_whole n width items whole = grind (arith, length-drop)
 
--- one more block behind the others
+-- appending another block
 pub by_block-push : {A : Type 0} (n width : ℕ) (items values : List A) → length items ≡ n * width → length values ≡ width
     → by_block (suc n) width (items ++ values) ≡ by_block n width items ++ values ∷ []
 by_block-push zero width [] values whole wide = ap (λ r. r ∷ []) (take_all width values (omega arith))
@@ -59,7 +59,7 @@ by_block-flat (suc n) width items whole =
     ∙ ap (λ rest. take width items ++ rest) (by_block-flat n width (drop width items) (rest_whole n width items whole))
     ∙ take-append-drop width items
 
--- one more block behind blocks of as many values, where the width of no blocks is any
+-- appending a block to blocks with the same number of values; without blocks, any width is theirs
 pub block_pushed : {A : Type 0} (n width : ℕ) (items values : List A) → length items ≡ n * width
     → All (λ r. length r ≡ length values) (by_block n width items)
     → (length items ≡ n * length values) × (by_block (n + 1) (length values) (items ++ values) ≡ by_block n width items ++ values ∷ [])

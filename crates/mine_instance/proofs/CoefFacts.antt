@@ -1,4 +1,4 @@
--- The coefficients of a model are those of its blocks at its covered pairs.
+-- The coefficients of a model are the coefficients of its blocks at its covered pairs.
 use Rattle.std.proofs.Common.{◌≡◌, ℕ, ◌∙◌, Bool, true, false, cond, List, [], ◌∷◌, ◌++◌, length, map, Option, Some, None, refl, sym, ap}
 use Rattle.std.specs.Prelude.{filter, if◌then◌else◌, not, ◌||◌, ◌==◌}
 use Rattle.std.specs.List.{cons_option, enumerate_from, filter_map, flat_map, range_with_len}
@@ -11,7 +11,7 @@ use Rattle.mine_instance.specs.OfModel.{coef_at, coefs}
 use Rattle.mine_instance.specs.declared.coefs.coef.Coef.{Coef}
 
 module _ (k : ℕ) (b : Block) where
-  -- whether the block has no tonnage
+  -- with a flag that the block has no tonnage
   abbrev found : Bool → ℕ → ℕ × Resource → Option Coef
   found none d resource = if none || not (covers d resource) then None else Some (block_coef k b (pair_with d resource))
 
@@ -36,7 +36,7 @@ module _ (k : ℕ) (b : Block) where
   of_block true resources [] = refl
   of_block false resources [] = refl
   of_block true resources (d ∷ destinations) =
-      ap (λ front. front ++ flat_map (λ d. filter_map (found true d) (enumerate_from 0 resources)) destinations)
+      ap (λ prefix. prefix ++ flat_map (λ d. filter_map (found true d) (enumerate_from 0 resources)) destinations)
       (at_destination true d (enumerate_from 0 resources))
       ∙ of_block true resources destinations
   of_block false resources (d ∷ destinations) =

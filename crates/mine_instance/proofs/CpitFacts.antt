@@ -1,4 +1,4 @@
--- The CPIT of a valid instance keeps what every CPIT keeps.
+-- The CPIT of a valid instance is well-formed.
 use Rattle.std.proofs.Common.{◌≡◌, ℕ, ◌<◌, true, List, length, get_or, map, ◌∙◌, arith, ℤ, All}
 use Rattle.std.specs.Prelude.{filter, AllPairs, IsTrue, ◌==◌, ◌&&◌, ◌||◌, nat_lt}
 use Rattle.std.proofs.lemmas.Bool.{eqb-true}
@@ -6,9 +6,9 @@ use Rattle.std.proofs.lemmas.Bool.Decides.{nat_tests}
 use Rattle.std.proofs.lemmas.List.{length-map}
 use Rattle.std.proofs.lemmas.List.Elements.{All-map, All-filter, filter_passes}
 use Rattle.std.proofs.lemmas.List.Kept.{AllPairs-filter}
-use Rattle.mine_instance.specs.cpit.CpitKept.{IsCpit}
+use Rattle.mine_instance.specs.cpit.CpitInvariant.{IsCpit}
 use Rattle.mine_instance.specs.cpit.CpitOrder.{cpit_coef_before}
-use Rattle.mine_instance.specs.Greatest.{greatest}
+use Rattle.mine_instance.specs.Largest.{largest}
 use Rattle.mine_instance.specs.cpit.OfCpit.{cpit, is_chosen, at_only_destination, destination_of}
 use Rattle.mine_instance.specs.Order.{coef_before}
 use Rattle.mine_instance.specs.Valid.{AreCoefs, IsValid}
@@ -16,7 +16,7 @@ use Rattle.mine_instance.specs.declared.coefs.coef.Coef.{Coef}
 use Rattle.mine_instance.specs.Instance.{Instance}
 use Rattle.mine_instance.proofs.PairFacts.{pairs_map}
 
--- where both are at their blocks' destinations, or at the only one, coefficients rise by block and resource
+-- if both are at their blocks' destinations, or at the only one, coefficients rise by block and resource
 by_resource : (f : ℕ → ℕ) (b b' d d' r r' : ℕ) → d ≡ f b → d' ≡ f b'
     → (nat_lt b b' || ((b == b') && (nat_lt d d' || ((d == d') && nat_lt r r')))) ≡ true
     → (nat_lt b b' || ((b == b') && nat_lt r r')) ≡ true
@@ -53,7 +53,7 @@ chosen_in_range values n destinations resources coefs in_range =
 
 pub cpit_is_one : (i : Instance) → IsValid i → IsCpit (cpit i)
 cpit_is_one i v =
-    let count : length (map greatest i.values) ≡ length i.blocks = length-map i.values greatest ∙ v.lengths.values in
+    let count : length (map largest i.values) ≡ length i.blocks = length-map i.values largest ∙ v.lengths.values in
     record {
       few = rw count v.lengths.few;
       horizon = v.horizon;

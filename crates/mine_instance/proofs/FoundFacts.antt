@@ -1,4 +1,4 @@
--- The coefficients that are found are those of the blocks, and those of a block stand together.
+-- The lazily computed coefficients equal the blocks' coefficients, and the coefficients of a block are consecutive.
 use Rattle.std.proofs.Common.{◌≡◌, ℕ, zero, suc, ◌+◌, ◌*◌, ◌/◌, ◌%◌, ◌<◌, ◌≤◌, Bool, true, false, cond, List, [], ◌∷◌, ◌++◌, length, map, take, drop, get_or, refl, sym, ◌∙◌, ap, arith, append-nil, mod-lt, mul-zero}
 use Rattle.std.specs.Prelude.{vec_len, ◌==◌}
 use Rattle.std.specs.List.{flat_map, enumerate_from}
@@ -10,10 +10,10 @@ use Rattle.std.proofs.Math.Nat.{div-add-mod, div-lt_iff_lt-mul, mul-le-mul_right
 use Rattle.std.proofs.Math.Seq.{drop-append_seam, drop-drop, take-append_seam}
 use Rattle.plan_parts.specs.declared.block.Block.{Block}
 use Rattle.mine_instance.specs.declared.coefs.coef.Coef.{Coef}
-use Rattle.mine_instance.specs.declared.coefs.found.FoundCoefs.TheInside.{Inside}
+use Rattle.mine_instance.specs.declared.coefs.found.LazyCoefs.TheInside.{Inside}
 use Rattle.mine_instance.specs.declared.coefs.found.HeavyBlock.{HeavyBlock}
 use Rattle.mine_instance.specs.coefs.CoveredPairs.{block_coefs, block_coef, coefs_of}
-use Rattle.mine_instance.specs.inner.FoundCoefFields.{heavy_one, heavy_of, heavy_coef, heavy_coefs, found_coefs, found_in}
+use Rattle.mine_instance.specs.inner.LazyCoefFields.{heavy_one, heavy_of, heavy_coef, heavy_coefs, found_coefs, found_in}
 use Rattle.mine_instance.proofs.BuildFacts.{length-flat}
 
 one_block : (pairs : List (ℕ × ℕ)) (k : ℕ) (b : Block) → found_coefs pairs (heavy_one (k, b)) ≡ block_coefs pairs (k, b)
@@ -33,11 +33,11 @@ numbered_blocks pairs (b ∷ bs) =
     flat_map-append (heavy_coefs pairs) (heavy_one b) (flat_map heavy_one bs)
     ∙ (λ j. one_block pairs b.0 b.1 j ++ numbered_blocks pairs bs j)
 
--- what is found are the coefficients of the blocks: those without tonnage have none
+-- the computed coefficients equal the blocks' coefficients; blocks without tonnage have none
 pub found_are : (pairs : List (ℕ × ℕ)) (blocks : List Block) → found_coefs pairs (heavy_of blocks) ≡ coefs_of pairs blocks
 found_are pairs blocks = numbered_blocks pairs (enumerate_from 0 blocks)
 
--- no more of them than blocks
+-- their number is at most the number of blocks
 pub heavy_few : (blocks : List Block) → length (heavy_of blocks) ≤ length blocks
 heavy_few blocks =
     let numbered = enumerate_from 0 blocks in
@@ -57,14 +57,14 @@ length-found pairs heavy = length-flat (heavy_coefs pairs) (length pairs) (λ bl
 
 pub ruleset counts = (length-found)
 
--- at no pair there are none
+-- without pairs there are none
 pub none_found : (pairs : List (ℕ × ℕ)) (blocks : List Block) → length pairs ≡ 0 → coefs_of pairs blocks ≡ []
 none_found pairs blocks none =
     sym (found_are pairs blocks)
     ∙ nil_from_length (found_coefs pairs (heavy_of blocks))
     (length-found pairs (heavy_of blocks) ∙ ap (λ n. length (heavy_of blocks) * n) none ∙ mul-zero (length (heavy_of blocks)))
 
--- the row of a place, and the place in it
+-- the row with a place, and the place in the row
 pub row_and_place : (index width n : ℕ) → index < n * width
     → (0 < width) × (index / width < n) × (index % width < width) × (index / width * width + index % width ≡ index)
 row_and_place index width n h =
@@ -77,7 +77,7 @@ row_and_place index width n h =
     wide zero h = absurd (grind arith)
     wide (suc width) h = omega arith
 
--- the coefficients from those of a block on
+-- the coefficients from a block on
 from_block : (pairs : List (ℕ × ℕ)) (heavy : List HeavyBlock) (i j : ℕ) (b : HeavyBlock) → i < length heavy → j ≤ length pairs
     → b ≡ get_or heavy i b
     → drop (i * length pairs + j) (found_coefs pairs heavy) ≡ drop j (heavy_coefs pairs b) ++ found_coefs pairs (drop (suc i) heavy)
@@ -97,7 +97,7 @@ from_block pairs (x ∷ heavy) (suc i) j b h k is =
     ∙ ap (drop (i * length pairs + j)) (drop-append_seam own (found_coefs pairs heavy))
     ∙ from_block pairs heavy i j b (omega (arith, h)) k is
 
--- those of a block at the pairs from one on stand together
+-- the coefficients of a block at the pairs from one pair on are consecutive
 pub of_block : (pairs : List (ℕ × ℕ)) (heavy : List HeavyBlock) (i j : ℕ) (b : HeavyBlock) → i < length heavy → j ≤ length pairs
     → b ≡ get_or heavy i b
     → map (heavy_coef b) (drop j pairs) ≡ take (length (drop j pairs)) (drop (i * length pairs + j) (found_coefs pairs heavy))
@@ -112,16 +112,16 @@ module _ (f : Inside) (all : List Coef) (width : ℕ) (is : found_in f ≡ all) 
   wide : width ≡ length f.pairs.items
   wide = omega (arith, len, f.pairs.ok)
 
-  -- so many are there
+  -- their number
   length-all : length all ≡ length f.heavy.items * width
   length-all = sym (ap length is) ∙ length-found f.pairs.items f.heavy.items ∙ ap (λ n. length f.heavy.items * n) (sym wide)
 
-  -- the block and the pair of a place
+  -- the block and the pair at a place
   pub place_of : (index : ℕ) → index < length all
       → (0 < width) × (index / width < length f.heavy.items) × (index % width < width) × (index / width * width + index % width ≡ index)
   place_of index h = row_and_place index width (length f.heavy.items) (omega (arith, h, length-all))
 
-  -- the coefficients of a block at the pairs from one on stand from the place of the first of them on
+  -- the coefficients of a block at the pairs from one pair on start at the place of the first
   pub group_is : (from : ℕ) (b : HeavyBlock) → from < length all → b ≡ get_or f.heavy.items (from / width) b
       → map (heavy_coef b) (drop (from % width) f.pairs.items)
       ≡ take (length (drop (from % width) f.pairs.items)) (drop from all)
@@ -132,7 +132,7 @@ module _ (f : Inside) (all : List Coef) (width : ℕ) (is : found_in f ≡ all) 
       of_block f.pairs.items f.heavy.items (from / width) (from % width) b place.1 (omega (arith, place.2, wide)) at
       ∙ (λ j. take (length (drop (from % width) f.pairs.items)) (drop (here j) (is j)))
 
-  -- and they are all there
+  -- and all of them are there
   pub whole_within : (from : ℕ) → from < length all → from + length (drop (from % width) f.pairs.items) ≤ length all
   whole_within from h =
       let place = place_of from h in

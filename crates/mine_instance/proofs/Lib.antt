@@ -4,10 +4,10 @@ pub mod CpitFacts
 pub mod BuildFacts
 pub mod CoefFacts
 pub mod FoundFacts
-pub mod GreatestFacts
+pub mod LargestFacts
 pub mod GroupFacts
 pub mod HundredsFacts
-pub mod KeptLaws
+pub mod WellFormedLaws
 pub mod ModelFacts
 pub mod OrderLaws
 pub mod ValueFacts

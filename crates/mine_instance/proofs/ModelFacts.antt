@@ -1,4 +1,4 @@
--- What the plan's ranges say of the parts of an instance.
+-- The ranges of an instance's parts, from the plan's ranges.
 use Rattle.std.proofs.Common.{◌≡◌, ℕ, ◌<◌, ◌≤◌, List, [], ◌∷◌, length, map, refl, sym, subst, ◌∙◌, ap, arith, ℤ, All, Bool, true, false, cond, suc, get_or, ◌⊎◌, inl, inr}
 use Rattle.std.proofs.lemmas.List.{length-map}
 use Rattle.std.proofs.lemmas.List.Elements.{All-map, All-append, All-head, All-tail, All-nil, All-filter}
@@ -13,8 +13,8 @@ use Rattle.precedence.proofs.LawFacts.{lie_higher, lists_rise, range_rises}
 use Rattle.plan_parts.specs.declared.resource.Resource.{Resource}
 use Rattle.plan_parts.specs.declared.limit.Limit.{Limit}
 use Rattle.plan_parts.specs.Plan.{PlanParts}
-use Rattle.plan_parts.specs.formulas.Formula.{IsRuled}
-use Rattle.plan_parts.specs.PlanKept.{IsPlan}
+use Rattle.plan_parts.specs.formulas.Formula.{IsFormulaInRange}
+use Rattle.plan_parts.specs.PlanInvariant.{IsPlan}
 use Rattle.plan_parts.specs.formulas.Worth.{worth}
 use Rattle.plan_parts.specs.formulas.WorthRange.{IsWorth}
 use Rattle.plan_parts.specs.declared.block.Block.{Block}
@@ -30,19 +30,19 @@ use Rattle.mine_instance.specs.coefs.CoveredPairs.{covers, pair_with, covering, 
 use Rattle.mine_instance.specs.Order.{coef_before}
 use Rattle.mine_instance.specs.declared.coefs.coef.Coef.{Coef}
 
--- one value per destination
+-- one value for each destination
 pub length-values_of : (plan : PlanParts) (b : Block) → length (values_of plan b) ≡ length plan.formulas
 length-values_of plan b =
     length-map (worths_by (formulas_of_plan plan) b) in_hundreds ∙ length-map (formulas_of_plan plan) (λ f. worth f b)
     ∙ length-map plan.formulas (λ f. f.formula)
 
--- the worths of a plan's formulas are in range
-pub worths_fit : ((f : Formula) (b : Block) → IsRuled f → IsWorth (worth f b)) → (plan : PlanParts) (b : Block) (worths : List ℤ)
-    → worths ≡ worths_by (formulas_of_plan plan) b → All (λ f. IsRuled f.formula) plan.formulas → All IsWorth worths
-worths_fit law plan b worths e ruled =
+-- the worths by a plan's formulas are in range
+pub worths_fit : ((f : Formula) (b : Block) → IsFormulaInRange f → IsWorth (worth f b)) → (plan : PlanParts) (b : Block) (worths : List ℤ)
+    → worths ≡ worths_by (formulas_of_plan plan) b → All (λ f. IsFormulaInRange f.formula) plan.formulas → All IsWorth worths
+worths_fit law plan b worths e formula_in_range =
     rw e (All-map IsWorth (λ f. worth f b) (formulas_of_plan plan)
     (All-map (λ f. IsWorth (worth f b)) (λ (f : NamedFormula). f.formula) plan.formulas
-    (λ k d h. law (get_or plan.formulas k d).formula b (ruled k d h))))
+    (λ k d h. law (get_or plan.formulas k d).formula b (formula_in_range k d h))))
 
 pub limits_are : (plan : PlanParts) → IsPlan plan → AreLimits (length plan.resources) plan.periods plan.limits
 limits_are plan is = record {
@@ -67,14 +67,14 @@ preds_are plan (b ∷ bs) = λ i h.
       distinct = rising_differ ids (AllPairs-from_increasing ids (lists_rise plan blocks i within));
     }
 
--- ---- lists that rise, one after the other
+-- ---- concatenated rising lists
 
 all_flat : {X Y : Type 0} (P : Y → Type 0) (f : X → List Y) (xs : List X) → All (λ x. All P (f x)) xs → All P (flat_map f xs)
 all_flat P f [] each = All-nil P
 all_flat P f (x ∷ xs) each =
     All-append P (f x) (flat_map f xs) (All-head (λ x. All P (f x)) x xs each) (all_flat P f xs (All-tail (λ x. All P (f x)) x xs each))
 
--- lists of rising numbers, where each element of a smaller number stands before those of a greater one
+-- lists of rising numbers, if elements with a smaller number precede elements with a larger one
 pairs_flat : {X Y : Type 0} (R : Y → Y → Type 0) (f : X → List Y) (number : X → ℕ) (key : Y → ℕ)
     → ((y z : Y) → key y < key z → R y z) → ((x : X) → All (λ y. key y ≡ number x) (f x)) → ((x : X) → AllPairs R (f x))
     → (xs : List X) → AllPairs (λ x z. number x < number z) xs → AllPairs R (flat_map f xs)
@@ -86,7 +86,7 @@ pairs_flat R f number key before own each (x ∷ xs) rise =
     before (get_or (f x) i d) (get_or (f (get_or xs j e)) k c)
     (omega (arith, own x i d lt, own (get_or xs j e) k c g, rise 0 (suc j) e (omega arith) (omega arith)))))
 
--- what holds of a list and of none
+-- a property of a list and of the empty list
 or_none : {X : Type 0} (Q : List X → Type 0) (none : Bool) (xs : List X) → Q [] → Q xs → Q (cond none [] xs)
 or_none Q true xs empty whole = empty
 or_none Q false xs empty whole = whole
@@ -163,7 +163,7 @@ module _ (nd nr : ℕ) (pairs : List (ℕ × ℕ)) (fit : All (λ p. (p.0 < nd) 
         (λ e k c h. (block_coefs_in e k c h).0) block_coefs_rise (enumerate_from 0 blocks) (numbered_rise blocks);
   }
 
--- the instance of a plan and of blocks by identifier is valid
+-- the instance of a plan and of blocks in order of identifier is valid
 pub instance_is_valid : (plan : PlanParts) (blocks : List Block) → IsPlan plan → length blocks ≤ 64000000
     → IsValid (instance_of plan blocks)
 instance_is_valid plan blocks is few = record {
@@ -185,7 +185,7 @@ instance_is_valid plan blocks is few = record {
   limits = limits_are plan is;
 }
 
--- an instance by its parts
+-- an instance with these parts
 abbrev instance_with : List ℕ → ℤ → ℕ → ℕ → ℕ → List Block → List (List ℕ) → List (List ℤ) → List Coef → List Limit → Instance
 instance_with name rate periods destinations resources blocks lists values coefs limits = record {
   name = name;

@@ -1,4 +1,4 @@
--- The values of blocks by the worths of rows at the positions of a numbering, and kept row by row.
+-- The values of blocks from the worths of rows at the positions of a numbering, stored row by row.
 use Rattle.std.proofs.Common.{◌≡◌, ℕ, ◌<◌, ℤ, List, [], ◌∷◌, length, map, get_or, All, refl, sym, ap, ◌∙◌, arith}
 use Rattle.std.proofs.lemmas.List.{get_or-map, length-map, same_lists}
 use Rattle.std.proofs.lemmas.List.Elements.{All-head, All-tail}
@@ -11,9 +11,9 @@ use Rattle.rows.specs.Valued.{worths_by}
 use Rattle.rows.specs.declared.item.Valued.{Valued}
 use Rattle.mine_instance.specs.OfModel.{in_hundreds, values_of}
 use Rattle.mine_instance.specs.WorthsOf.{AreWorthsOf}
-use Rattle.mine_instance.specs.inner.FoundValueFields.{found_at}
+use Rattle.mine_instance.specs.inner.LazyValueFields.{found_at}
 
--- the worths of rows are those of their blocks
+-- the worths of rows are the worths of their blocks
 worths_of_blocks : (plan : PlanParts) (rows : List Valued) → All (λ row. row.worths ≡ worths_by (formulas_of_plan plan) row.block) rows
     → map (λ row. row.worths) rows ≡ map (worths_by (formulas_of_plan plan)) (blocks_of_rows rows)
 worths_of_blocks plan [] all = refl
@@ -21,7 +21,7 @@ worths_of_blocks plan (row ∷ rows) all =
     let Own : Valued → Type 0 = λ row. row.worths ≡ worths_by (formulas_of_plan plan) row.block in
     λ i. All-head Own row rows all i ∷ worths_of_blocks plan rows (All-tail Own row rows all) i
 
--- at the positions of a numbering stands what belongs to the blocks by identifier
+-- the elements at the positions of a numbering belong to the blocks in order of identifier
 numbered_at : (value : Block → List ℤ) (blocks : List Block) (n : NumberingView) → IsNumbering blocks n
     → map (λ p. get_or (map value blocks) p []) n.positions ≡ map value n.blocks
 numbered_at value blocks n is =
@@ -44,12 +44,12 @@ numbered_at value blocks n is =
         ∙ ap value (is.stands k b low)
         ∙ sym (get_or-map value n.blocks k b d (omega (arith, is.blocks)))
 
--- a list made in two steps
+-- a map in two steps
 in_two_steps : {X Y Z : Type 0} (f : Y → Z) (g : X → Y) (xs : List X) → map (λ x. f (g x)) xs ≡ map f (map g xs)
 in_two_steps f g [] = refl
 in_two_steps f g (x ∷ xs) = ap (λ ys. f (g x) ∷ ys) (in_two_steps f g xs)
 
--- the worths of rows at the positions of the numbering of their blocks make the values of the blocks by identifier
+-- the worths of rows at the positions of their blocks' numbering make the values of the blocks in order of identifier
 pub values_found : (worths : List (List ℤ)) (positions : List ℕ) (plan : PlanParts) (rows : List Valued) (n : NumberingView)
     → AreWorthsOf plan worths rows → IsNumbering (blocks_of_rows rows) n → n.positions ≡ positions
     → map (found_at worths) positions ≡ map (values_of plan) n.blocks
@@ -60,7 +60,7 @@ values_found worths positions plan rows n are is same =
     ∙ ap (map (map in_hundreds)) ((λ i. map (λ p. get_or (own i) p []) (sym same i)) ∙ numbered_at worth (blocks_of_rows rows) n is)
     ∙ sym (in_two_steps (map in_hundreds) worth n.blocks)
 
--- the row at a position of the numbering has the worths of its block, which make the values of the block of that identifier
+-- the row at a position of the numbering has the worths of its block, which make the values of the block with that identifier
 pub row_values : (plan : PlanParts) (rows : List Valued) (positions : List ℕ) (n : NumberingView) (i : ℕ) (d : Valued)
     → IsNumbering (blocks_of_rows rows) n → All (λ row. row.worths ≡ worths_by (formulas_of_plan plan) row.block) rows
     → positions ≡ n.positions → i < length positions

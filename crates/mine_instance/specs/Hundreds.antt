@@ -1,6 +1,6 @@
--- What a value of an instance is worth.
+-- The worth in cents of an instance's value.
 use Rattle.std.specs.Prelude.{◌≡◌, ℤ, pos, ◌*ℤ◌}
 
--- a value, in millionths of a hundred cents, is worth so many cents
+-- a value, in millionths of 100 cents, is worth `cents` cents
 abbrev pub IsWorthCents : ℤ → ℤ → Type 0
 IsWorthCents cents value = value *ℤ pos 100 ≡ cents *ℤ pos 1000000

@@ -1,13 +1,13 @@
 pub mod BlockValues
 pub mod ByBlock
-pub mod Greatest
 pub mod Hundreds
 pub mod Instance
-pub mod Kept
+pub mod Largest
 pub mod OfModel
 pub mod OneSlope
 pub mod Order
 pub mod Valid
+pub mod WellFormed
 pub mod WorthsOf
 pub mod coefs
 pub mod cpit

@@ -42,7 +42,7 @@ coefs plan blocks =
     (λ block. flat_map (λ d. filter_map (coef_at block d) (enumerate_from 0 plan.resources)) (range_with_len 0 (length plan.formulas)))
     (enumerate_from 0 blocks)
 
--- the instance of a plan and of blocks by identifier
+-- the instance of a plan and of blocks in order of identifier
 abbrev pub instance_of : PlanParts → List Block → Instance
 instance_of plan blocks = record {
   name = plan.name;

@@ -1,4 +1,4 @@
 pub mod Cpit
-pub mod CpitKept
+pub mod CpitInvariant
 pub mod CpitOrder
 pub mod OfCpit

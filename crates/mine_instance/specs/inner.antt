@@ -1,2 +1,2 @@
-pub mod FoundCoefFields
-pub mod FoundValueFields
+pub mod LazyCoefFields
+pub mod LazyValueFields

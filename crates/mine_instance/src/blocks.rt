@@ -3,5 +3,5 @@
 use plan_parts::block::Block;
 use plan_parts::listed::Listed;
 
-/// Blocks by identifier.
+/// Blocks in order of identifier.
 pub type Blocks = Listed<Block>;

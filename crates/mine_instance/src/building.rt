@@ -1,4 +1,4 @@
-//! From a model's valued blocks to its instance.
+//! Builds a model's instance from its valued blocks.
 
 ghost use Rattle.std.specs.Prelude.{◌≡◌, ◌*◌, ◌≤◌, ◌==◌, ◌++◌, ◌∷◌, [], List, length, map, All, IfOk, OnOk, if◌then◌else◌};
 ghost use Rattle.std.specs.List.{list_any};
@@ -9,7 +9,7 @@ ghost use Rattle.precedence.specs.Cone.{preds as cone_lists};
 ghost use Rattle.precedence.specs.Identifier.{blocks_of_rows};
 ghost use Rattle.precedence.specs.Numbering.{IsNumbering, NumberingView};
 ghost use Rattle.rows.specs.Valued.{worths_by};
-ghost use Rattle.mine_instance.specs.Kept.{IsKept};
+ghost use Rattle.mine_instance.specs.WellFormed.{IsWellFormed};
 ghost use Rattle.mine_instance.specs.OfModel.{in_hundreds, instance, values_of};
 ghost use Rattle.mine_instance.specs.coefs.CoveredPairs.{block_coefs, coefs_of, covering, covered};
 ghost use Rattle.mine_instance.specs.Valid.{IsValid};
@@ -17,7 +17,7 @@ ghost use Rattle.plan_parts.specs.declared.ranges.TheConstants.{MAX_BLOCKS, MAX_
 
 use crate::blocks::Blocks;
 use crate::coefs::coef::{Coef, Coefs};
-use crate::coefs::found::FoundCoefs;
+use crate::coefs::found::LazyCoefs;
 use crate::coefs::group::Covering;
 use crate::coefs::list::CoefList;
 use crate::instance::Instance;
@@ -34,7 +34,8 @@ use precedence::{Numbering, PredLists, Preds};
 use rows::Valued;
 use std::alloc::{AllocError, Global};
 
-/// The instance of a model, given its rows, their numbering and their predecessors. Fails only where memory is refused.
+/// Builds the instance of a model from its rows, the numbering of their blocks, and their predecessors. The plan's formulas must
+/// yield the worths of each row. Fails only if memory is refused.
 pub fn build(
     alloc: Global,
     numbering: &Numbering,
@@ -48,7 +49,7 @@ pub fn build(
         rows.now }
     ensures value { IfOk result (λ built. built ≡ instance plan.now (blocks_of_rows rows.now)) }
     ensures valid { IfOk result IsValid }
-    ensures kept { IfOk result IsKept }
+    ensures kept { IfOk result IsWellFormed }
 {
     let blocks = Vec::from_slice(alloc, numbering.blocks())?;
     let values = values_by(alloc, numbering, rows, plan)?;
@@ -57,15 +58,15 @@ pub fn build(
     of_parts(alloc, blocks, preds, values, coefs, plan)
 }
 
-/// The instance of a model, given its blocks in the order of their identifiers, their predecessors and their values.
-/// The numbering of the blocks is needed no more. Coefficients are found when they are asked for. Fails only where memory is refused.
+/// Builds the instance of a model from its blocks in order of identifier, at most 64,000,000, their predecessors and their values.
+/// It needs no numbering, so the caller may have dropped it. Coefficients are computed lazily. Fails only if memory is refused.
 pub fn build_with<P: PredLists + Drop, V: ValueList + Drop>(
     alloc: Global,
     blocks: Vec<Block>,
     preds: P,
     values: V,
     plan: &Plan,
-) -> Result<Instance<P, FoundCoefs, V>, AllocError>
+) -> Result<Instance<P, LazyCoefs, V>, AllocError>
     requires few { length blocks.items ≤ MAX_BLOCKS }
     requires preds { P.lists preds ≡ cone_lists plan.now blocks.items }
     requires values { V.list values ≡ map (values_of plan.now) blocks.items }
@@ -73,14 +74,14 @@ pub fn build_with<P: PredLists + Drop, V: ValueList + Drop>(
         → n.blocks ≡ blocks.items
         → IfOk result (λ built. built ≡ instance plan.now listed) }
     ensures valid { IfOk result IsValid }
-    ensures kept { IfOk result IsKept }
+    ensures kept { IfOk result IsWellFormed }
 {
     let pairs = covered_pairs(alloc, plan)?;
-    let coefs = FoundCoefs::new(alloc, pairs, blocks.as_slice())?;
+    let coefs = LazyCoefs::new(alloc, pairs, blocks.as_slice())?;
     of_parts(alloc, blocks, preds, values, coefs, plan)
 }
 
-// The same, given the coefficients too.
+// The same, with the coefficients.
 fn of_parts<P: PredLists + Drop, C: CoefList + Drop, V: ValueList + Drop>(
     alloc: Global,
     blocks: Vec<Block>,
@@ -97,10 +98,10 @@ fn of_parts<P: PredLists + Drop, C: CoefList + Drop, V: ValueList + Drop>(
         → n.blocks ≡ blocks.items
         → IfOk result (λ built. built ≡ instance plan.now listed) }
     ensures valid { IfOk result IsValid }
-    ensures kept { IfOk result IsKept }
+    ensures kept { IfOk result IsWellFormed }
 {
     let own = plan.name();
-    // The text of a NAME spells one.
+    // The text of a NAME encodes a NAME.
     let _text = own.as_str();
     let name = own.copy(alloc)?;
     let limits = Vec::from_slice(alloc, plan.limits())?;
@@ -118,7 +119,7 @@ fn of_parts<P: PredLists + Drop, C: CoefList + Drop, V: ValueList + Drop>(
     })
 }
 
-// The values of the blocks by identifier, by the worths of their rows.
+// Returns the values of the blocks in order of identifier, from the worths of their rows.
 fn values_by(
     alloc: Global,
     numbering: &Numbering,
@@ -130,7 +131,7 @@ fn values_by(
         rows.now }
     ensures { IfOk result (λ values. values ≡ map (values_of plan.now) numbering.now.blocks) }
 {
-    // A formula of a plan gives worths that a value can have.
+    // The worths of a plan's formulas are in the range of values.
     worths_are_in_range();
     let width = plan.formulas().len();
     let count = numbering.blocks().len();
@@ -154,7 +155,7 @@ fn push_values(own: &mut Vec<Dec>, worths: &[i128]) -> Result<(), AllocError>
     Ok(())
 }
 
-// The coefficients of blocks by identifier, at these pairs.
+// Returns the coefficients of blocks in order of identifier, at these pairs.
 fn coefs_at(alloc: Global, pairs: &[Covering], blocks: &[Block]) -> Result<Coefs, AllocError>
     requires { length blocks.now ≤ MAX_BLOCKS }
     ensures { IfOk result (λ coefs. coefs ≡ coefs_of pairs.now blocks.now) }

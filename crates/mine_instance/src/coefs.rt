@@ -1,4 +1,4 @@
-//! Coefficients: one, those of a block, and lists that keep or find them.
+//! Coefficients: a single one, groups with one block, and lists that store them or compute them lazily.
 
 pub mod coef;
 pub mod found;

@@ -1,7 +1,7 @@
 //! The constrained pit limit problem of an instance.
 
 ghost use Rattle.std.specs.Prelude.{◌≡◌, length, AllPairs, IsTrue};
-ghost use Rattle.mine_instance.specs.cpit.CpitKept.{IsCpit};
+ghost use Rattle.mine_instance.specs.cpit.CpitInvariant.{IsCpit};
 ghost use Rattle.mine_instance.specs.cpit.CpitOrder.{cpit_coef_before};
 
 use crate::coefs::coef::{Coef, Coefs};
@@ -10,9 +10,9 @@ use plan_parts::limit::Limit;
 use plan_parts::name::Name;
 use std::marker::Model;
 
-/// An instance of the constrained pit limit problem of MineLib (Espinoza, Goycoolea, Moreno and Newman 2013): each
-/// block has one destination, and so one value. Contracts see the record of its parts. Every value keeps their ranges
-/// and orders.
+/// An instance of the constrained pit limit problem of MineLib (Espinoza, Goycoolea, Moreno and Newman 2013): each block has one
+/// destination, and so one value. Contracts see the record of its parts. The parts of every value have their lengths, ranges and
+/// orders.
 #[derive(Debug, Drop)]
 pub struct Cpit {
     name: Name,
@@ -29,7 +29,7 @@ impl Model for Cpit {
 
     ghost Value = { CpitParts };
 
-    ghost use Rattle.mine_instance.specs.cpit.CpitKept.{IsCpit, cpit_of};
+    ghost use Rattle.mine_instance.specs.cpit.CpitInvariant.{IsCpit, cpit_of};
 
     ghost view = { λ c. cpit_of c.name c.rate c.periods c.resources c.values.items
         c.coefs c.limits.items };
@@ -39,9 +39,9 @@ impl Model for Cpit {
 }
 
 impl Cpit {
-    ghost use Rattle.mine_instance.specs.cpit.CpitKept.{cpit_of};
+    ghost use Rattle.mine_instance.specs.cpit.CpitInvariant.{cpit_of};
 
-    /// The CPIT of these parts, which must fit one another and keep their ranges and orders.
+    /// Makes a CPIT of these parts, which must have their lengths, ranges and orders.
     pub fn new(
         name: Name,
         rate: Dec,
@@ -67,35 +67,35 @@ impl Cpit {
         }
     }
 
-    /// The NAME of the instance.
+    /// Returns the NAME of the instance.
     pub fn name(&self) -> &Name
         ensures { result.now ≡ self.now.name }
     {
         &self.name
     }
 
-    /// The discount rate, 0 to 1.
+    /// Returns the discount rate, 0 to 1.
     pub fn rate(&self) -> Dec
         ensures { result ≡ self.now.rate }
     {
         self.rate
     }
 
-    /// The number of periods, 1 to 100.
+    /// Returns the number of periods, 1 to 100.
     pub fn periods(&self) -> u8
         ensures { result ≡ self.now.periods }
     {
         self.periods
     }
 
-    /// The number of resources, at most 8.
+    /// Returns the number of resources, at most 8.
     pub fn resources(&self) -> u8
         ensures { result ≡ self.now.resources }
     {
         self.resources
     }
 
-    /// The value of each block, in units of 100 cents.
+    /// Returns the value of each block, in units of 100 cents.
     pub fn values(&self) -> &[Dec]
         ensures value { result.now ≡ self.now.values }
         ensures kept { IsCpit self.now }
@@ -103,7 +103,7 @@ impl Cpit {
         self.values.as_slice()
     }
 
-    /// The coefficients, in strictly rising order of block and resource. Each is at destination 0, the only one.
+    /// Returns the coefficients, in strictly rising order of block and resource. Each is at destination 0, the only one.
     #[tactic(auto, using(crate::proofs::CpitFacts::rise_by_resource))]
     pub fn coefs(&self) -> &[Coef]
         ensures value { result.now ≡ self.now.coefs }
@@ -113,7 +113,7 @@ impl Cpit {
         self.coefs.as_slice()
     }
 
-    /// The limits, in strictly rising order of resource and period.
+    /// Returns the limits, in strictly rising order of resource and period.
     pub fn limits(&self) -> &[Limit]
         ensures value { result.now ≡ self.now.limits }
         ensures kept { IsCpit self.now }
@@ -121,7 +121,7 @@ impl Cpit {
         self.limits.as_slice()
     }
 
-    /// The number of coefficients.
+    /// Returns the number of coefficients.
     pub fn coefs_len(&self) -> usize
         ensures { result ≡ length self.now.coefs }
     {

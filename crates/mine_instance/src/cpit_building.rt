@@ -1,9 +1,9 @@
-//! From an instance to its CPIT.
+//! Builds the CPIT of an instance.
 
 ghost use Rattle.std.specs.Prelude.{◌≡◌, ◌==◌, ◌<◌, ◌++◌, length, map, filter, All, IfOk, OnOk};
-ghost use Rattle.mine_instance.specs.Greatest.{greatest};
+ghost use Rattle.mine_instance.specs.Largest.{largest};
 ghost use Rattle.mine_instance.specs.coefs.Groups.{coefs_in};
-ghost use Rattle.mine_instance.specs.Kept.{IsKept, IsKeptCpit};
+ghost use Rattle.mine_instance.specs.WellFormed.{IsWellFormed, IsWellFormedCpit};
 ghost use Rattle.mine_instance.specs.cpit.OfCpit.{cpit, is_chosen, at_only_destination};
 ghost use Rattle.mine_instance.specs.Valid.{IsValid};
 
@@ -17,19 +17,19 @@ use pit_units::Dec;
 use precedence::PredLists;
 use std::alloc::{AllocError, Global};
 
-/// The CPIT of a valid instance: each block goes to the first destination where it is worth most, and has the value and the
-/// coefficients of that destination. Where the instance has a NAME and decimals, as each that was built or read, so has the CPIT. Fails
-/// only where memory is refused.
+/// Builds the CPIT of a valid instance: each block goes to the first destination with its largest value, and gets the value and the
+/// coefficients of that destination. If the instance has a NAME and its numbers are in the range of decimals, like every instance
+/// that was built or read, so does the CPIT. Fails only if memory is refused.
 pub fn build_cpit<P: PredLists, C: CoefList, V: ValueList>(
     alloc: Global,
     instance: &Instance<P, C, V>,
 ) -> Result<Cpit, AllocError>
     requires { IsValid instance.now }
     ensures value { IfOk result (λ built. built ≡ cpit instance.now) }
-    ensures kept { IsKept instance.now → IfOk result IsKeptCpit }
+    ensures kept { IsWellFormed instance.now → IfOk result IsWellFormedCpit }
 {
     let name = instance.name.copy(alloc)?;
-    let values = greatest_of(alloc, &instance.values)?;
+    let values = largest_of(alloc, &instance.values)?;
     let coefs = chosen_of(alloc, &instance.coefs, &instance.values)?;
     let limits = Vec::from_slice(alloc, instance.limits.as_slice())?;
     Ok(Cpit::new(
@@ -43,19 +43,19 @@ pub fn build_cpit<P: PredLists, C: CoefList, V: ValueList>(
     ))
 }
 
-// What each block is worth where it is worth most.
-fn greatest_of<V: ValueList>(alloc: Global, values: &V) -> Result<Vec<Dec>, AllocError>
+// Returns the largest value of each block.
+fn largest_of<V: ValueList>(alloc: Global, values: &V) -> Result<Vec<Dec>, AllocError>
     requires { All (λ of_block. 0 < length of_block) (V.list values.now) }
-    ensures { IfOk result (λ all. all.items ≡ map greatest (V.list values.now)) }
+    ensures { IfOk result (λ all. all.items ≡ map largest (V.list values.now)) }
 {
     let mut all = Vec::with_capacity(alloc, values.len())?;
     for block in 0..values.len() {
-        all.push(values.of_block(block).greatest())?;
+        all.push(values.of_block(block).largest())?;
     }
     Ok(all)
 }
 
-// The coefficients at their blocks' destinations.
+// Returns the coefficients at their blocks' destinations.
 fn chosen_of<C: CoefList, V: ValueList>(
     alloc: Global,
     coefs: &C,
@@ -70,14 +70,14 @@ fn chosen_of<C: CoefList, V: ValueList>(
     let mut from = 0;
     while from < coefs.len() {
         let group = coefs.group(from);
-        let destination = values.of_block(group.b as usize).first_greatest();
+        let destination = values.of_block(group.b as usize).first_largest();
         push_at(&mut chosen, &group, destination)?;
         from += group.pairs.len();
     }
     Ok(chosen)
 }
 
-// Those of a group at a destination.
+// Appends the coefficients of a group that are at a destination.
 fn push_at(chosen: &mut Vec<Coef>, group: &CoefGroup, destination: usize) -> Result<(), AllocError>
     ensures { OnOk result (chosen.new.items ≡ chosen.old.items
         ++ map at_only_destination (filter (λ coef. coef.d == destination) (coefs_in group.now))) }

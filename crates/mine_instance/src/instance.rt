@@ -13,10 +13,10 @@ use plan_parts::name::Name;
 use precedence::{PredLists, Preds};
 use std::marker::Model;
 
-/// An instance of the production scheduling problem of MineLib (Espinoza, Goycoolea, Moreno and Newman 2013). Blocks,
-/// predecessors and values stand by identifier. `P` has the predecessors: `Preds` keeps their lists, and `FoundPreds` finds them. `C`
-/// has the coefficients: `Coefs` keeps and lends them, and `FoundCoefs` finds them. `V` has the values: `Values` keeps and lends them,
-/// and `FoundValues` finds them. Contracts see the lists, whether they are kept or found.
+/// An instance of the production scheduling problem of MineLib (Espinoza, Goycoolea, Moreno and Newman 2013). Blocks, predecessors
+/// and values are in order of identifier. `P` has the predecessors: `Preds` stores their lists, and `FoundPreds` computes them
+/// lazily. `C` has the coefficients: `Coefs` stores them, and `LazyCoefs` computes them lazily. `V` has the values: `Values`
+/// stores them, and `LazyValues` computes them lazily. Contracts see the lists in both cases.
 #[derive(Debug, Drop)]
 pub struct Instance<P: PredLists = Preds, C: CoefList = Coefs, V: ValueList = Values> {
     /// The NAME of the instance.
@@ -29,13 +29,13 @@ pub struct Instance<P: PredLists = Preds, C: CoefList = Coefs, V: ValueList = Va
     pub destinations: u8,
     /// The number of resources.
     pub resources: u8,
-    /// The blocks, by identifier.
+    /// The blocks, in order of identifier.
     pub blocks: Blocks,
-    /// The blocks that each block has to wait for.
+    /// The predecessors of each block.
     pub preds: P,
-    /// What each block is worth at each destination, in units of 100 cents.
+    /// The value of each block at each destination, in units of 100 cents.
     pub values: V,
-    /// What resources handle of each block at each destination.
+    /// The tonnes that each block adds to a resource at each destination.
     pub coefs: C,
     /// The limits, in rising order of resource and period.
     pub limits: Limits,
@@ -61,21 +61,21 @@ impl<P: PredLists, C: CoefList, V: ValueList> Model for Instance<P, C, V> {
 }
 
 impl<P: PredLists, C: CoefList, V: ValueList> Instance<P, C, V> {
-    /// The number of blocks.
+    /// Returns the number of blocks.
     pub fn blocks_len(&self) -> usize
         ensures { result ≡ length self.now.blocks }
     {
         self.blocks.as_slice().len()
     }
 
-    /// The number of limits.
+    /// Returns the number of limits.
     pub fn limits_len(&self) -> usize
         ensures { result ≡ length self.now.limits }
     {
         self.limits.as_slice().len()
     }
 
-    /// The number of coefficients.
+    /// Returns the number of coefficients.
     pub fn coefs_len(&self) -> usize
         ensures { result ≡ length self.now.coefs }
     {
@@ -84,7 +84,7 @@ impl<P: PredLists, C: CoefList, V: ValueList> Instance<P, C, V> {
 }
 
 impl<C: CoefList, V: ValueList> Instance<Preds, C, V> {
-    /// The number of arcs: pairs of a block and one that it has to wait for.
+    /// Returns the number of arcs: pairs of a block and one of its predecessors.
     pub fn arcs(&self) -> usize
         ensures { result ≡ sum_by length self.now.preds }
     {

@@ -1,4 +1,4 @@
-//! The instance of a model: its parts by identifier, and what makes it valid.
+//! The instance of a model: its parts in order of identifier, and the rules of a valid instance.
 #![tactic(auto)]
 
 pub mod blocks;
@@ -14,7 +14,7 @@ mod validity;
 pub mod values;
 
 pub use building::{build, build_with};
-pub use coefs::found::FoundCoefs;
+pub use coefs::found::LazyCoefs;
 pub use cpit_building::build_cpit;
 pub use validity::is_valid;
-pub use values::found::FoundValues;
+pub use values::found::LazyValues;

@@ -8,7 +8,7 @@ use plan_parts::listed::Listed;
 pub type Limits = Listed<Limit>;
 
 impl Ordered for Limit {
-    ghost use Rattle.plan_parts.specs.PlanKept.{stands_before};
+    ghost use Rattle.plan_parts.specs.PlanInvariant.{stands_before};
 
     ghost before = { stands_before };
 

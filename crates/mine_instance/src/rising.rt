@@ -9,12 +9,12 @@ pub trait Ordered {
     fn is_before(&self, other: &Self) -> bool
         ensures { result ≡ before self.now other.now };
 
-    /// Does nothing. Its contract says that the order is transitive.
+    /// Does nothing. Its contract states that the order is transitive.
     fn is_transitive()
         ensures { (x y z : Self) → IsTrue (before x y) → IsTrue (before y z) → IsTrue (before x z) };
 }
 
-/// Whether each item stands before all that come after it.
+/// Returns whether each item precedes all later items.
 pub fn rises<T: Ordered>(items: &[T]) -> bool
     ensures { IsTrue result ↔ AllPairs (λ item later. IsTrue (T.before item later)) items.now }
 {

@@ -1,4 +1,4 @@
-//! Whether an instance is valid.
+//! The test whether an instance is valid.
 
 ghost use Rattle.std.specs.Prelude.{◌≢◌, ◌≤◌, ◌↔◌, length, All, AllPairs, IsTrue};
 ghost use Rattle.mine_instance.specs.Valid.{HasLengths, ArePredsOf, ArePreds, IsHorizon, HasDestinations, AreCoefs, AreLimits, IsValid};
@@ -13,7 +13,7 @@ use plan_parts::limit::Limit;
 use plan_parts::ranges::{MAX_BLOCKS, MAX_DESTINATIONS, MAX_PERIODS, MAX_RATE, MAX_RESOURCES};
 use precedence::Preds;
 
-/// Whether the parts of an instance fit one another and keep their ranges and orders.
+/// Returns whether the parts of an instance have their lengths, ranges and orders.
 pub fn is_valid(instance: &Instance) -> bool
     ensures { IsTrue result ↔ IsValid instance.now }
 {
@@ -72,7 +72,7 @@ fn are_preds_of(ids: &[u32], own: usize, count: usize) -> bool
         && are_distinct(ids)
 }
 
-// The lists of a built instance rise, and need no pairs compared.
+// The lists of a built instance rise, so no pairs need to be compared.
 fn are_distinct(ids: &[u32]) -> bool
     ensures { IsTrue result ↔ AllPairs (λ id other. id ≢ other) ids.now }
 {

@@ -1,4 +1,4 @@
-//! The values of the blocks at the destinations, kept.
+//! Stored values of the blocks at the destinations.
 
 ghost use Rattle.std.specs.Prelude.{◌≡◌, ◌*◌, ◌^◌, ◌-◌, ◌<◌, ◌++◌, ◌∷◌, ◌↔◌, length, vec_len, slice_index_or, [], All, IsTrue, OnOk, OnErr};
 ghost use Rattle.std.specs.List.{flat_map};
@@ -12,14 +12,15 @@ use std::marker::Model;
 
 pub mod block;
 pub mod found;
-pub mod greatest;
 pub mod in_hundreds;
+pub mod largest;
 pub mod list;
 
-/// The values of blocks by identifier, one per destination, in units of 100 cents. Contracts see a list of values for each block.
+/// The values of blocks in order of identifier, one for each destination, in units of 100 cents. Contracts see a list of values for
+/// each block.
 #[derive(Debug, Drop)]
 pub struct Values {
-    // the values of one block after those of the one before it
+    // The values of all blocks, block after block.
     all: Vec<Dec>,
     count: usize,
     width: usize,
@@ -37,7 +38,7 @@ impl Model for Values {
 }
 
 impl Values {
-    /// The values of `count` blocks, `width` each, one block's after those of the block before it.
+    /// Makes the values of `count` blocks from a list with `width` values for each block, block after block.
     pub fn new(all: Vec<Dec>, count: usize, width: usize) -> Values
         requires { vec_len all ≡ count * width }
         ensures { result ≡ by_block count width all.items }
@@ -45,7 +46,7 @@ impl Values {
         Values { all, count, width }
     }
 
-    /// The number of blocks.
+    /// Returns the number of blocks.
     #[tactic(auto, using(crate::proofs::ByBlockFacts::by_blocks))]
     pub fn len(&self) -> usize
         ensures { result ≡ length self.now }
@@ -53,14 +54,14 @@ impl Values {
         self.count
     }
 
-    /// Whether each block has so many values.
+    /// Returns whether each block has `width` values.
     pub fn are_of_width(&self, width: usize) -> bool
         ensures { IsTrue result ↔ All (λ values. length values ≡ width) self.now }
     {
         self.len() == 0 || self.width == width
     }
 
-    /// The values of a block, in the order of the destinations.
+    /// Returns the values of a block, in the order of the destinations.
     #[tactic(auto, using(crate::proofs::ByBlockFacts::by_blocks))]
     pub fn of(&self, block: usize) -> &[Dec]
         requires { block < length self.now }
@@ -71,7 +72,8 @@ impl Values {
         values
     }
 
-    /// Adds the values of one more block, as many as each of the others has. Where memory is refused the values are as they were.
+    /// Appends the values of a block; each block must have the same number of values. There must be fewer than 2^64 - 1 blocks. If
+    /// memory is refused, the values are unchanged.
     #[tactic(auto, using(crate::proofs::ByBlockFacts::by_blocks))]
     pub fn push(&mut self, values: &[Dec]) -> Result<(), AllocError>
         requires room { length self.old < 2 ^ 64 - 1 }
@@ -81,12 +83,12 @@ impl Values {
     {
         self.all.extend_from_slice(values)?;
         self.count += 1;
-        // where these are the first, the width was that of no block
+        // Without earlier blocks, the width was arbitrary.
         self.width = values.len();
         Ok(())
     }
 
-    /// The values of all blocks, one block's behind those of the block before it.
+    /// Returns the values of all blocks, block after block.
     pub fn into_flat(self) -> Vec<Dec>
         ensures { result.items ≡ flat_map (λ of_block. of_block) self }
     {

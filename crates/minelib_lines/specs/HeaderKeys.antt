@@ -6,7 +6,7 @@ use Rattle.minelib_lines.specs.declared.header_key.HeaderKey.TheVariants as key
 use Rattle.minelib_lines.specs.declared.problem.Problem.{Problem}
 use Rattle.minelib_lines.specs.declared.problem.Problem.TheVariants.{Pcpsp, Cpit}
 
--- how TYPE names the problem
+-- the name of the problem as a value of TYPE
 abbrev pub type_text : Problem → List ℕ
 type_text Pcpsp = codes "PCPSP"
 type_text Cpit = codes "CPIT"
@@ -16,7 +16,7 @@ abbrev pub header_keys : List HeaderKey
 header_keys =
     key.Name ∷ key.Type ∷ key.Blocks ∷ key.Periods ∷ key.Destinations ∷ key.Resources ∷ key.General ∷ key.Rate ∷ []
 
--- the place of each among all
+-- the place of each key among all keys
 abbrev pub place : HeaderKey → ℕ
 place key.Name = 0
 place key.Type = 1
@@ -27,7 +27,7 @@ place key.Resources = 5
 place key.General = 6
 place key.Rate = 7
 
--- its word
+-- the word of a key
 abbrev pub key_word : HeaderKey → List ℕ
 key_word key.Name = codes "NAME"
 key_word key.Type = codes "TYPE"
@@ -38,7 +38,7 @@ key_word key.Resources = codes "NRESOURCE_SIDE_CONSTRAINTS"
 key_word key.General = codes "NGENERAL_SIDE_CONSTRAINTS"
 key_word key.Rate = codes "DISCOUNT_RATE"
 
--- the files of the problem have this key: those of a CPIT none for destinations and general side constraints
+-- the files of the problem have this key; CPIT files have no keys for destinations and general side constraints
 abbrev pub has_key : Problem → HeaderKey → Bool
 has_key Pcpsp k = true
 has_key Cpit key.Destinations = false

@@ -1,4 +1,4 @@
--- The value of each header key of the model files as it is written, with its line, and its field as the code has it.
+-- The value of each header key of the model files, as text, with its line; and the field of the value.
 use Rattle.std.specs.Prelude.{ℕ, ◌+◌, ◌-◌, ◌*◌, ◌^◌, Bool, true, false, List, [], ◌∷◌, ◌++◌, map, unsigned_abs, codes, decimal}
 use Rattle.std.specs.List.{filter}
 use Rattle.plan_parts.specs.declared.ranges.TheConstants.{MAX_BLOCKS, MAX_DESTINATIONS, MAX_PERIODS, MAX_RATE, MAX_RESOURCES}
@@ -21,8 +21,8 @@ of_upit k = false
 abbrev pub upit_keys : List HeaderKey
 upit_keys = filter of_upit header_keys
 
--- the value of a key as it is written, where TYPE names the problem so, of n blocks, with what the header states; there are no general
--- side constraints
+-- the value of a key, as text: `problem` is the value of TYPE, n the number of blocks, h the content of the header. There are no
+-- general side constraints
 abbrev pub key_text : List ℕ → ℕ → StatedHeader → HeaderKey → List ℕ
 key_text problem n h key.Name = h.name
 key_text problem n h key.Type = problem
@@ -33,14 +33,14 @@ key_text problem n h key.Resources = decimal h.resources
 key_text problem n h key.General = decimal 0
 key_text problem n h key.Rate = shortest h.rate
 
--- its line, and a line for each of these keys
+-- the line of a key, and the lines of a file's keys
 abbrev pub key_line : HeaderKey → List ℕ → List ℕ
 key_line k text = line_of ((key_word k ++ codes ":") ∷ text ∷ [])
 
 abbrev pub key_lines : (HeaderKey → List ℕ) → List HeaderKey → List (List ℕ)
 key_lines text keys = map (λ k. key_line k (text k)) keys
 
--- the field of a value: a whole number from the lowest to the highest, or one below a limit
+-- the field of a value: an integer from `low` to `high`, or an integer below a limit
 abbrev pub between : ℕ → ℕ → KeyField
 between low high = field.Number 0 (low * 10 ^ 6) (high * 10 ^ 6)
 

@@ -1,4 +1,4 @@
--- Values of header keys, as the code has them.
+-- Values of header keys.
 use Rattle.std.specs.Prelude.{ℕ, List, decimal}
 use Rattle.pit_units.specs.Decimal.{shortest}
 use Rattle.minelib_lines.specs.HeaderTable.{key_text}
@@ -7,13 +7,13 @@ use Rattle.minelib_lines.specs.declared.key_values.KeyValue.{KeyValue}
 use Rattle.minelib_lines.specs.declared.key_values.KeyValue.TheVariants as value
 use Rattle.minelib_lines.specs.declared.key_values.KeyValues.{KeyValues}
 
--- the value as it is written
+-- the value as text
 abbrev pub value_text : KeyValue → List ℕ
 value_text (value.Text text) = text.now
 value_text (value.Whole n) = decimal n
 value_text (value.Decimal m) = shortest m
 
--- that of a key, by what is said of all
+-- the text of a key's value, from the values of all keys
 abbrev pub text_in : KeyValues → HeaderKey → List ℕ
 text_in v = key_text v.problem.now v.blocks (record {
   name = v.name.now;

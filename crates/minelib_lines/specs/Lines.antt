@@ -7,11 +7,11 @@ abbrev pub text_of : List (List ℕ) → List ℕ
 text_of [] = []
 text_of (line ∷ lines) = (line ++ 10 ∷ []) ++ text_of lines
 
--- fields with one space between them
+-- fields, separated by one space
 abbrev pub line_of : List (List ℕ) → List ℕ
 line_of fields = join_with_byte 32 fields
 
--- a line for each item; `fields` gets the number of the item, counted from n, and the item
+-- a line for each item; `fields` gets the item and its number, counted from n
 abbrev pub lines_from : {A : Type 0} → (ℕ → A → List (List ℕ)) → ℕ → List A → List (List ℕ)
 lines_from fields n [] = []
 lines_from fields n (x ∷ xs) = line_of (fields n x) ∷ lines_from fields (n + 1) xs

@@ -1,9 +1,9 @@
--- What the header of a model file states.
+-- The content of a model file's header.
 use Rattle.std.specs.Prelude.{ℕ, List, ℤ}
 use Rattle.mine_instance.specs.cpit.Cpit.{CpitParts}
 use Rattle.mine_instance.specs.Instance.{Instance}
 
--- the discount rate in millionths
+-- the discount rate is in millionths
 pub record StatedHeader : Type 0 where
   pub name : List ℕ
   pub periods : ℕ
@@ -11,7 +11,7 @@ pub record StatedHeader : Type 0 where
   pub resources : ℕ
   pub rate : ℤ
 
--- of an instance
+-- the header of an instance
 abbrev pub header_of : Instance → StatedHeader
 header_of i = record {
   name = i.name;
@@ -21,7 +21,7 @@ header_of i = record {
   rate = i.rate;
 }
 
--- of a constrained pit limit problem, which has one destination
+-- the header of a constrained pit limit problem, which has one destination
 abbrev pub header_of_cpit : CpitParts → StatedHeader
 header_of_cpit c = record {
   name = c.name;

@@ -1,4 +1,4 @@
-//! The keys of the header of a model file, a row each.
+//! The header keys of a model file, with a table row for each.
 
 ghost use Rattle.std.specs.Prelude.{◌≡◌, ◌<◌, ◌≤◌, ◌*◌, ◌-◌, ◌^◌};
 ghost use Rattle.minelib_lines.specs.HeaderTable.{key_field, upit_keys};
@@ -10,10 +10,10 @@ ghost use Rattle.minelib_lines.specs.declared.problem.Problem.TheVariants as Pro
 use pit_units::MILLIONTHS;
 use plan_parts::ranges::{MAX_BLOCKS, MAX_DESTINATIONS, MAX_PERIODS, MAX_RATE, MAX_RESOURCES};
 
-/// How many keys there are.
+/// The number of keys.
 pub const KEYS: usize = 8;
 
-/// A key of the header, in the order in which they are written.
+/// A header key, in the order in which the keys are written.
 #[derive(Clone, Copy, Debug, PartialEq, Eq)]
 pub enum HeaderKey {
     Name,
@@ -31,23 +31,23 @@ pub enum HeaderKey {
 pub enum KeyField {
     /// A NAME.
     Name,
-    /// The word of the problem.
+    /// The name of the problem.
     Type,
-    /// A number with at most so many decimals, of millionths from `low` to `high`.
+    /// A number with at most `decimals` decimals, from `low` to `high` millionths.
     Number { decimals: u8, low: u64, high: u64 },
 }
 
-/// What is said of a key.
+/// The word and the field of a key.
 #[derive(Clone, Copy, Debug)]
 pub struct KeyRow {
-    /// Its word, which stands before the colon of its line.
+    /// The word of the key, which precedes the colon in its line.
     pub word: &'static [u8],
     /// The field of its value.
     pub field: KeyField,
 }
 
 impl HeaderKey {
-    /// What is said of this key.
+    /// Returns the word and the field of the key.
     pub fn row(self) -> KeyRow
         ensures word { result.word.now ≡ key_word self }
         ensures field { result.field ≡ key_field self }
@@ -77,7 +77,7 @@ impl HeaderKey {
         }
     }
 
-    /// Those of a PCPSP file: all.
+    /// Returns the keys of a PCPSP file: all keys.
     pub fn of_pcpsp() -> &'static [HeaderKey]
         ensures { result.now ≡ keys_of Problem.Pcpsp }
     {
@@ -93,7 +93,7 @@ impl HeaderKey {
         ]
     }
 
-    /// Those of a CPIT file.
+    /// Returns the keys of a CPIT file.
     pub fn of_cpit() -> &'static [HeaderKey]
         ensures { result.now ≡ keys_of Problem.Cpit }
     {
@@ -107,14 +107,14 @@ impl HeaderKey {
         ]
     }
 
-    /// Those of a UPIT file.
+    /// Returns the keys of a UPIT file.
     pub fn of_upit() -> &'static [HeaderKey]
         ensures { result.now ≡ upit_keys }
     {
         &[HeaderKey::Name, HeaderKey::Type, HeaderKey::Blocks]
     }
 
-    /// Its place among all.
+    /// Returns the place of the key among all keys.
     #[inline]
     pub fn place(self) -> usize
         ensures value { result ≡ place self }
@@ -130,7 +130,7 @@ fn row(word: &'static [u8], field: KeyField) -> KeyRow
     KeyRow { word, field }
 }
 
-// A whole number below a limit.
+// Returns the field of an integer below a limit.
 fn below(limit: u64) -> KeyField
     requires { (0 < limit) × (limit ≤ 10 ^ 9) }
     ensures { result ≡ KeyField.Number 0 0 (limit * 10 ^ 6 - 1) }
@@ -142,7 +142,7 @@ fn below(limit: u64) -> KeyField
     }
 }
 
-// A whole number from the lowest to the highest.
+// Returns the field of an integer from `low` to `high`.
 fn between(low: u64, high: u64) -> KeyField
     requires { (low ≤ 10 ^ 9) × (high ≤ 10 ^ 9) }
     ensures { result ≡ KeyField.Number 0 (low * 10 ^ 6) (high * 10 ^ 6) }

@@ -14,7 +14,7 @@ use mine_instance::values::list::ValueList;
 use pit_units::Dec;
 use precedence::PredLists;
 
-/// What the header keys of a file say; what its keys do not say may be anything.
+/// The values of a file's header keys. A value whose key the file does not have may be anything.
 #[derive(Drop)]
 pub struct KeyValues<'a> {
     pub problem: &'a [u8],
@@ -35,7 +35,7 @@ pub enum KeyValue<'a> {
 }
 
 impl<'a> KeyValues<'a> {
-    /// Of an instance, where TYPE names the problem so.
+    /// Returns the values of an instance's file; `problem` is the value of TYPE.
     pub fn of_instance<P: PredLists, C: CoefList, V: ValueList>(
         problem: &'a [u8],
         instance: &'a Instance<P, C, V>,
@@ -55,7 +55,7 @@ impl<'a> KeyValues<'a> {
         }
     }
 
-    /// Of an instance of which each block has one destination.
+    /// Returns the values of an instance's file in which each block has one destination.
     pub fn of_one_destination<P: PredLists, C: CoefList, V: ValueList>(
         problem: &'a [u8],
         instance: &'a Instance<P, C, V>,
@@ -76,7 +76,7 @@ impl<'a> KeyValues<'a> {
         }
     }
 
-    /// Of a CPIT, which has one destination.
+    /// Returns the values of a CPIT's file. A CPIT has one destination.
     pub fn of_cpit(problem: &'a [u8], cpit: &'a Cpit) -> KeyValues<'a>
         ensures values { text_in result
             ≡ key_text problem.now (length cpit.now.values) (header_of_cpit cpit.now) }
@@ -93,7 +93,7 @@ impl<'a> KeyValues<'a> {
         }
     }
 
-    /// The value of a key.
+    /// Returns the value of a key.
     pub fn of(&self, key: HeaderKey) -> KeyValue<'a>
         ensures { value_text result ≡ text_in self.now key }
     {

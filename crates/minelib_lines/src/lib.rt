@@ -1,4 +1,4 @@
-//! What the lines of the MineLib texts say: the header keys, the values of each line, and lines and fields as bytes.
+//! The lines of the MineLib files: the header keys, the values of each line, and lines and fields as bytes.
 #![tactic(auto)]
 
 pub mod header_key;

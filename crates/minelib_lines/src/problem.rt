@@ -1,4 +1,4 @@
-//! The problem that a model file states.
+//! The problem of a model file.
 
 ghost use Rattle.std.specs.Prelude.{◌≡◌};
 ghost use Rattle.minelib_lines.specs.HeaderKeys.{keys_of, type_text};
@@ -10,12 +10,12 @@ use crate::header_key::HeaderKey;
 pub enum Problem {
     /// Production scheduling: a block has a value and coefficients at each destination.
     Pcpsp,
-    /// The constrained pit limit: a block has one value, and coefficients of its own.
+    /// Constrained pit limit: a block has one value, and its own coefficients.
     Cpit,
 }
 
 impl Problem {
-    /// How its TYPE names it.
+    /// Returns the value of TYPE for the problem.
     pub fn type_text(self) -> &'static [u8]
         ensures { result.now ≡ type_text self }
     {
@@ -25,7 +25,7 @@ impl Problem {
         }
     }
 
-    /// The keys of its files, in the order in which they are written.
+    /// Returns the keys of the problem's files, in the order in which they are written.
     pub fn keys(self) -> &'static [HeaderKey]
         ensures { result.now ≡ keys_of self }
     {

@@ -1,4 +1,4 @@
-//! The texts of an instance, by their names.
+//! The files of an instance by name.
 
 ghost use Rattle.std.specs.Prelude.{◌≡◌};
 ghost use Rattle.minelib_lines.specs.TextNames.{all_texts, ending_of};
@@ -6,7 +6,7 @@ ghost use Rattle.minelib_lines.specs.TextNames.{all_texts, ending_of};
 use std::fmt;
 use thiserror::Error;
 
-/// One of the texts of an instance, in the order of writing.
+/// A file of an instance, in the order of writing.
 #[derive(Clone, Copy, Debug, Error, PartialEq, Eq)]
 pub enum TextName {
     Blocks,
@@ -17,7 +17,7 @@ pub enum TextName {
 }
 
 impl TextName {
-    /// All of them, in the order of writing.
+    /// Returns all files, in the order of writing.
     pub fn all() -> [TextName; 5]
         ensures { result ≡ all_texts }
     {
@@ -30,7 +30,7 @@ impl TextName {
         ]
     }
 
-    /// The ending of its file, which faults and section lines have too.
+    /// Returns the extension of the file, which faults and section lines also use.
     pub fn ending(self) -> &'static str
         ensures { result.now ≡ ending_of self }
     {

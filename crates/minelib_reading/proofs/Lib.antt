@@ -1,5 +1,5 @@
 pub mod counts
+pub mod encoded
 pub mod keys
 pub mod lines
 pub mod models
-pub mod spelled

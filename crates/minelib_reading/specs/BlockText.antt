@@ -11,8 +11,8 @@ use Rattle.text_lines.specs.declared.text_fault.TextKind.{TextKind}
 use Rattle.text_lines.specs.declared.text_fault.TextKind.TheVariants.{Fields, Order}
 use Rattle.plan_parts.specs.declared.ranges.TheConstants.{GRID_CELLS, MAX_BLOCKS, MAX_GRADE, MAX_KG, MAX_ZONES}
 
--- `id x y z tonnes grade zone` behind the lines of so many blocks: identifiers run 0, 1, 2, ..; tonnes have three decimals and grams per
--- tonne six, and a kilogram is a thousandth of a tonne
+-- `id x y z tonnes grade zone` after `before` lines of blocks: identifiers are 0, 1, 2, ..; tonnes have up to three decimals and
+-- grams per tonne up to six, and a kilogram is a thousandth of a tonne
 unfoldable pub block_stated : ℕ → List (List ℕ) → Result Block TextKind
 block_stated before fields =
     if not (length fields == 7) then Err Fields else do
@@ -25,10 +25,10 @@ block_stated before fields =
       zone ← below_in MAX_ZONES (field_at fields 6)
       if not (id == before) then Err Order else Ok (block_with x y z (tonnes / 1000) grade zone)
 
--- the blocks of the lines so far, and behind them that of a line
+-- the blocks of the lines so far, followed by the block of a line
 abbrev pub with_block : List Block → List ℕ → Result (List Block) TextKind
 with_block blocks line = block_stated (length blocks) (fields_of line) >>= λ b. Ok (blocks ++ b ∷ [])
 
--- the blocks of a text, or its first faulty line
+-- the blocks of a text, or its first invalid line
 abbrev pub blocks_in : List ℕ → Result (List Block) LineFault
 blocks_in text = read_lines with_block [] (lines_in text)

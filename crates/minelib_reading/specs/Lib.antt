@@ -7,5 +7,5 @@ pub mod ModelKeys
 pub mod ModelText
 pub mod PrecText
 pub mod StatedModel
+pub mod encoded
 pub mod inner
-pub mod spelled

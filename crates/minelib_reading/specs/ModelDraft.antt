@@ -1,4 +1,4 @@
--- What the lines of a model file state so far, of the production scheduling problem or the constrained pit limit problem.
+-- What the lines of a model file state so far, for the production scheduling problem or the constrained pit limit problem.
 use Rattle.std.specs.Prelude.{ℕ, ◌+◌, ◌-◌, ◌==◌, ◌&&◌, Bool, true, List, [], length, ℤ, Option, Some, None, slice_get}
 use Rattle.plan_parts.specs.declared.limit.Limit.{Limit}
 use Rattle.mine_instance.specs.declared.coefs.coef.Coef.{Coef}
@@ -11,11 +11,11 @@ use Rattle.minelib_reading.specs.declared.model.key.Header.{Header}
 use Rattle.minelib_reading.specs.declared.model.key.Section.{Section}
 use Rattle.minelib_reading.specs.declared.model.key.Section.TheVariants.{Heading, Objective, Coefs, Limits}
 
--- of so many blocks
+-- `blocks` is the number of blocks
 pub record ModelDraftView : Type 0 where
   pub problem : Problem
   pub blocks : ℕ
-  -- empty until its key stands
+  -- empty before its key was read
   pub name : List ℕ
   pub header : Header
   pub section : Section
@@ -23,7 +23,7 @@ pub record ModelDraftView : Type 0 where
   pub coefs : List Coef
   pub limits : List Limit
 
--- the header before its first key: a CPIT has one destination and no general side constraints, without keys for them
+-- the header before its first key: a CPIT has one destination and no general side constraints, and no keys for them
 abbrev pub blank_header : Problem → Header
 blank_header Pcpsp = no_key
 blank_header Cpit = with_key (with_key no_key key.Destinations 1) key.General 0
@@ -41,7 +41,7 @@ blank_model problem n = record {
   limits = [];
 }
 
--- the sections in their order, behind the header
+-- the sections in order, after the header
 abbrev pub rank : Section → ℕ
 rank Heading = 0
 rank Objective = 1
@@ -58,18 +58,18 @@ is_limits section = rank section == 3
 abbrev pub is_next : Section → Section → Bool
 is_next section next = rank next == rank section + 1
 
--- all that has to stand before the next section does: each header key, and values of each block
+-- everything required before the next section is there: each header key, or the values of each block
 abbrev pub is_ready : ModelDraftView → Section → Bool
 is_ready d Heading = is_complete d.header
 is_ready d Objective = length d.values == d.blocks
 is_ready d Coefs = true
 is_ready d Limits = true
 
--- nothing of the file is lacking
+-- no required part of the file is missing
 abbrev pub is_whole : ModelDraftView → Bool
 is_whole d = is_complete d.header && (length d.values == d.blocks) && is_limits d.section
 
--- the NAME behind a header key with this value
+-- the NAME after a header key with this value
 abbrev pub name_with : HeaderKey → List ℕ → List ℕ → List ℕ
 name_with key.Name value name = value
 name_with k value name = name
@@ -78,7 +78,7 @@ name_with k value name = name
 abbrev pub last_of : {A : Type 0} → List A → Option A
 last_of items = slice_get items (length items - 1)
 
--- an item comes after the last
-abbrev pub is_behind : {A : Type 0} → (A → A → Bool) → Option A → A → Bool
-is_behind before None x = true
-is_behind before (Some last) x = before last x
+-- an item follows the last one, if there is one
+abbrev pub is_after : {A : Type 0} → (A → A → Bool) → Option A → A → Bool
+is_after before None x = true
+is_after before (Some last) x = before last x

@@ -1,9 +1,9 @@
--- What a line of a model file states behind those before it, field by field, or the kind of its first fault; and what a file states.
+-- What a line of a model file adds to earlier lines, field by field, or the kind of its first fault; and what a file states.
 use Rattle.std.specs.Prelude.{ℕ, ◌+◌, ◌==◌, ◌||◌, not, Bool, List, [], ◌∷◌, ◌++◌, length, drop, ℤ, codes, Option, Some, None, Result, Ok, Err, if◌then◌else◌}
 use Rattle.std.specs.List.{list_any, before_first, after_first}
 use Rattle.std.specs.Str.{bytes_eq}
 use Rattle.pit_units.specs.Steps.{◌>>=◌, each_of}
-use Rattle.plan_parts.specs.PlanKept.{is_turned, stands_before}
+use Rattle.plan_parts.specs.PlanInvariant.{is_turned, stands_before}
 use Rattle.plan_parts.specs.declared.limit.Bound.{Bound}
 use Rattle.plan_parts.specs.declared.limit.Bound.TheVariants.{AtMost, AtLeast, Between}
 use Rattle.plan_parts.specs.declared.limit.Limit.{Limit}
@@ -14,7 +14,7 @@ use Rattle.minelib_lines.specs.declared.header_key.HeaderKey.TheVariants as key
 use Rattle.minelib_lines.specs.declared.problem.Problem.{Problem}
 use Rattle.minelib_lines.specs.declared.problem.Problem.TheVariants.{Pcpsp, Cpit}
 use Rattle.minelib_reading.specs.HeaderNumbers.{count_in, is_given, with_key}
-use Rattle.minelib_reading.specs.ModelDraft.{ModelDraftView, blank_model, is_behind, is_heading, is_next, is_ready, is_whole, last_of, name_with}
+use Rattle.minelib_reading.specs.ModelDraft.{ModelDraftView, blank_model, is_after, is_heading, is_next, is_ready, is_whole, last_of, name_with}
 use Rattle.minelib_reading.specs.ModelKeys.{is_colon, key_of, number_stated}
 use Rattle.minelib_reading.specs.declared.model.key.ModelKey.{ModelKey}
 use Rattle.minelib_reading.specs.declared.model.key.ModelKey.TheVariants as model_key
@@ -27,7 +27,7 @@ use Rattle.text_lines.specs.declared.text_fault.LineFault.{LineFault}
 use Rattle.text_lines.specs.declared.text_fault.TextKind.{TextKind}
 use Rattle.text_lines.specs.declared.text_fault.TextKind.TheVariants.{Fields, Order, Twice, Key, Missing, Name}
 
--- `KEY: value`, before the first section, each key once
+-- `KEY: value` before the first section; each key appears once
 unfoldable pub key_stated : ModelDraftView → HeaderKey → List (List ℕ) → Result ModelDraftView TextKind
 key_stated d k fields =
     if not (is_heading d.section) then Err Key
@@ -44,13 +44,13 @@ section_stated d section fields =
     else (if not (is_ready d d.section) then Err Missing
     else Ok (record d { section = section })))
 
--- a line with a colon: its key, and the fields behind the colon
+-- a line with a colon: its key, and the fields after the colon
 abbrev pub keyed_stated : ModelDraftView → Option ModelKey → List (List ℕ) → Result ModelDraftView TextKind
 keyed_stated d None fields = Err Key
 keyed_stated d (Some (model_key.Header k)) fields = key_stated d k fields
 keyed_stated d (Some (model_key.Section section)) fields = section_stated d section fields
 
--- `b v0 v1 ..` of the next block, of n: a value for each destination
+-- `b v0 v1 ..` for the next of n blocks: a value for each destination
 unfoldable pub values_stated : ℕ → ℕ → ℕ → List (List ℕ) → Result (List ℤ) TextKind
 values_stated n destinations before fields =
     if not (length fields == destinations + 1) then Err Fields else do
@@ -58,7 +58,7 @@ values_stated n destinations before fields =
       values ← each_of decimal_in (drop 1 fields)
       if not (b == before) then Err Order else Ok values
 
--- `b d r v` of a coefficient; `b r v` in a CPIT, which has one destination
+-- the coefficient `b d r v`; `b r v` in a CPIT, which has one destination
 unfoldable pub coef_stated : Problem → ℕ → ℕ → ℕ → List (List ℕ) → Result Coef TextKind
 coef_stated Pcpsp n destinations resources fields =
     if not (length fields == 4) then Err Fields else do
@@ -74,7 +74,7 @@ coef_stated Cpit n destinations resources fields =
       v ← decimal_in (field_at fields 2)
       Ok (record { b = b; d = 0; r = r; v = v })
 
--- `r t L v`, `r t G v` or `r t I v w` of a limit
+-- the limit `r t L v`, `r t G v` or `r t I v w`
 abbrev pub has_letter : List (List ℕ) → List ℕ → Bool
 has_letter fields letter = bytes_eq (field_at fields 2) letter
 
@@ -93,7 +93,7 @@ limit_stated resources periods fields =
       bound ← bound_stated fields
       Ok (record { resource = resource; period = period; bound = bound })
 
--- a line without a colon, in its section: coefficients and limits come behind the last one, and no interval is turned
+-- a line without a colon, in its section: coefficients and limits follow the last one, and no interval has its ends reversed
 abbrev pub item_stated : ModelDraftView → Section → List (List ℕ) → Result ModelDraftView TextKind
 item_stated d Heading fields = Err Key
 item_stated d Objective fields = do
@@ -101,22 +101,22 @@ item_stated d Objective fields = do
   Ok (record d { values = d.values ++ values ∷ [] })
 item_stated d Coefs fields = do
   c ← coef_stated d.problem d.blocks (count_in d.header key.Destinations) (count_in d.header key.Resources) fields
-  if is_behind coef_before (last_of d.coefs) c then Ok (record d { coefs = d.coefs ++ c ∷ [] }) else Err Order
+  if is_after coef_before (last_of d.coefs) c then Ok (record d { coefs = d.coefs ++ c ∷ [] }) else Err Order
 item_stated d Limits fields = do
   l ← limit_stated (count_in d.header key.Resources) (count_in d.header key.Periods) fields
-  if is_turned l.bound || not (is_behind stands_before (last_of d.limits) l) then Err Order else Ok (record d { limits = d.limits ++ l ∷ [] })
+  if is_turned l.bound || not (is_after stands_before (last_of d.limits) l) then Err Order else Ok (record d { limits = d.limits ++ l ∷ [] })
 
--- a line of the file: its key is what stands before the first colon
+-- a line of the file; its key is before the first colon
 unfoldable pub line_stated : ModelDraftView → List ℕ → Result ModelDraftView TextKind
 line_stated d line =
     if list_any is_colon line
     then keyed_stated d (key_of d.problem (fields_of (before_first is_colon line))) (fields_of (after_first is_colon line))
     else item_stated d d.section (fields_of line)
 
--- the file once all lines are read
+-- the file after all lines are read
 abbrev pub finish_model : ℕ → ModelDraftView → Result ModelDraftView LineFault
 finish_model end d = if is_whole d then Ok d else Err (record { line = end; kind = Missing })
 
--- what the model file of a problem states, of n blocks, or its first faulty line
+-- what the model file of a problem states for n blocks, or its first invalid line
 abbrev pub model_in : Problem → ℕ → List ℕ → Result ModelDraftView LineFault
 model_in problem n text = read_lines line_stated (blank_model problem n) (lines_in text) >>= finish_model (end_of text)

@@ -9,16 +9,17 @@ use Rattle.text_lines.specs.declared.text_fault.LineFault.{LineFault}
 use Rattle.text_lines.specs.declared.text_fault.TextKind.{TextKind}
 use Rattle.text_lines.specs.declared.text_fault.TextKind.TheVariants.{Fields, Order, Count, Twice, Missing}
 
--- the number stands in the list
+-- the number is in the list
 abbrev pub stands_in : List ℕ → ℕ → Bool
 stands_in ids id = list_any (λ other. other == id) ids
 
--- no number stands twice
+-- no number appears twice
 abbrev pub all_differ : List ℕ → Bool
 all_differ [] = true
 all_differ (id ∷ ids) = not (stands_in ids id) && all_differ ids
 
--- `id k p1 .. pk` of the next block, of n: the k predecessors, none twice and none the block itself; a k of n or more is out of range
+-- `id k p1 .. pk` for the next of n blocks: the k predecessors, all distinct and other than the block; a k of n or more is out of
+-- range
 unfoldable pub preds_stated : ℕ → ℕ → List (List ℕ) → Result (List ℕ) TextKind
 preds_stated n own fields =
     if nat_lt (length fields) 2 then Err Fields else do
@@ -29,18 +30,18 @@ preds_stated n own fields =
           if not (k == length ids) then Err Count else (
           if stands_in ids own || not (all_differ ids) then Err Twice else Ok ids))
 
--- the predecessors of the lines so far, and behind them those of a line
+-- the predecessors of the lines so far, followed by the predecessors of a line
 abbrev pub with_preds : ℕ → List (List ℕ) → List ℕ → Result (List (List ℕ)) TextKind
 with_preds n lists line = preds_stated n (length lists) (fields_of line) >>= λ ids. Ok (lists ++ ids ∷ [])
 
--- the fault of too few lines, at the line behind the last
+-- the fault of too few lines, at the line after the last
 abbrev pub lines_missing : ℕ → LineFault
 lines_missing end = record { line = end; kind = Missing }
 
--- the lists once all lines are read: each of n blocks has one
+-- the lists after all lines are read: each of n blocks has one
 abbrev pub finish_preds : ℕ → ℕ → List (List ℕ) → Result (List (List ℕ)) LineFault
 finish_preds n end lists = if length lists == n then Ok lists else Err (lines_missing end)
 
--- the predecessors of a text, of n blocks, or its first faulty line
+-- the predecessors of n blocks in a text, or its first invalid line
 abbrev pub preds_in : ℕ → List ℕ → Result (List (List ℕ)) LineFault
 preds_in n text = read_lines (with_preds n) [] (lines_in text) >>= finish_preds n (end_of text)

@@ -1,4 +1,4 @@
--- What a model file states, and what that is of an instance and of a constrained pit limit problem.
+-- The content of a model file, and its relation to an instance and a constrained pit limit problem.
 use Rattle.std.specs.Prelude.{ℕ, List, [], ◌∷◌, map, ℤ, pos}
 use Rattle.plan_parts.specs.declared.limit.Limit.{Limit}
 use Rattle.mine_instance.specs.cpit.Cpit.{CpitParts}
@@ -10,7 +10,7 @@ use Rattle.minelib_reading.specs.HeaderNumbers.{count_in}
 use Rattle.minelib_reading.specs.ModelDraft.{ModelDraftView}
 use Rattle.minelib_reading.specs.declared.model.key.Header.{Header}
 
--- the header, and what the sections state: of each block a value for each destination, coefficients and limits
+-- the header and the sections: a value for each block and destination, coefficients, and limits
 pub record StatedModel : Type 0 where
   pub header : StatedHeader
   pub values : List (List ℤ)
@@ -26,11 +26,11 @@ model_of i = record {
   limits = i.limits;
 }
 
--- a value as those of the only destination
+-- a value, as the values of the only destination
 abbrev pub alone : ℤ → List ℤ
 alone v = v ∷ []
 
--- a constrained pit limit problem as its model file states it: of one destination
+-- a constrained pit limit problem as its model file states it: with one destination
 abbrev pub model_of_cpit : CpitParts → StatedModel
 model_of_cpit c = record {
   header = header_of_cpit c;
@@ -39,7 +39,7 @@ model_of_cpit c = record {
   limits = c.limits;
 }
 
--- what a NAME and a header state
+-- the header that a NAME and the numbers of header keys state
 abbrev pub header_stated : List ℕ → Header → StatedHeader
 header_stated name h = record {
   name = name;
@@ -49,7 +49,7 @@ header_stated name h = record {
   rate = pos (count_in h key.Rate);
 }
 
--- what the lines so far state
+-- the content of the lines so far
 abbrev pub stated_by : ModelDraftView → StatedModel
 stated_by d = record {
   header = header_stated d.name d.header;

@@ -1,4 +1,4 @@
-//! Reading a block file.
+//! A reader of block files.
 
 ghost use Rattle.std.specs.Prelude.{◌≡◌, ◌<◌, ◌≤◌, [], length, IfOk, OnOk};
 ghost use Rattle.plan_parts.specs.Block.{block_with};
@@ -18,12 +18,12 @@ use std::alloc::Global;
 use std::marker::Model;
 use text_lines::line_by_line::{Admit, read_lines};
 use text_lines::text_fault::{LineFault, TextKind};
-use text_lines::text_fields::{fault_kind_of_line, first_size, first_whole, has_field};
+use text_lines::text_fields::{fault_kind_of_line, first_integer, first_size, has_field};
 
-// The fields of a line: the identifier, three indices, tonnes, grade and zone.
+// The number of fields in a line: the identifier, three indices, tonnes, grade and zone.
 const FIELDS: usize = 7;
 
-/// The blocks of the lines so far, by identifier.
+/// The blocks of the lines so far, in order of identifier.
 #[derive(Drop)]
 pub struct BlockDraft<B: TakeBlocks> {
     blocks: B,
@@ -42,14 +42,14 @@ impl<B: TakeBlocks> Admit for BlockDraft<B> {
     ghost admit_line = { with_block };
 
     fn admit(&mut self, line: &[u8]) -> Result<(), OrMemory<TextKind>> {
-        let block = block_said(line, self.blocks.count())?;
+        let block = block_in_line(line, self.blocks.count())?;
         self.blocks.take(block)?;
         Ok(())
     }
 }
 
 impl<B: TakeBlocks + Drop> BlockDraft<B> {
-    /// Before the first line. `none` takes the blocks, and has none yet.
+    /// Makes a draft before the first line. `none` receives the blocks, and must have none yet.
     pub fn new(none: B) -> BlockDraft<B>
         requires { B.blocks none ≡ [] }
         ensures { result ≡ [] }
@@ -57,7 +57,7 @@ impl<B: TakeBlocks + Drop> BlockDraft<B> {
         BlockDraft { blocks: none }
     }
 
-    /// The blocks, once all lines are read.
+    /// Returns the blocks after all lines.
     pub fn finish(self) -> B
         ensures { B.blocks result ≡ self }
     {
@@ -65,8 +65,8 @@ impl<B: TakeBlocks + Drop> BlockDraft<B> {
     }
 }
 
-// The block of a line, where so many blocks stand before.
-fn block_said(line: &[u8], before: usize) -> Result<Block, TextKind>
+// Returns the block of a line after `before` other blocks.
+fn block_in_line(line: &[u8], before: usize) -> Result<Block, TextKind>
     ensures value { result ≡ block_stated before (fields_of line.now) }
     ensures few { OnOk result (before < MAX_BLOCKS) }
 {
@@ -82,14 +82,14 @@ fn uncounted_block(line: &[u8], before: usize) -> Result<Block, TextKind>
     ensures value { result ≡ uncounted_block before (fields_of line.now) }
     ensures few { OnOk result (before < MAX_BLOCKS) }
 {
-    let (id, behind_id) = first_whole(line, MAX_BLOCKS as u64)?;
-    let (x, behind_x) = first_whole(behind_id, u64::from(GRID_CELLS))?;
-    let (y, behind_y) = first_whole(behind_x, u64::from(GRID_CELLS))?;
-    let (z, behind_z) = first_whole(behind_y, u64::from(GRID_CELLS))?;
-    let (tonnes, behind_tonnes) = first_size(behind_z, 3, MAX_KG * 1000)?;
-    let (grade, behind_grade) = first_size(behind_tonnes, 6, MAX_GRADE)?;
-    let (zone, behind_zone) = first_whole(behind_grade, u64::from(MAX_ZONES))?;
-    if has_field(behind_zone) {
+    let (id, after_id) = first_integer(line, MAX_BLOCKS as u64)?;
+    let (x, after_x) = first_integer(after_id, u64::from(GRID_CELLS))?;
+    let (y, after_y) = first_integer(after_x, u64::from(GRID_CELLS))?;
+    let (z, after_z) = first_integer(after_y, u64::from(GRID_CELLS))?;
+    let (tonnes, after_tonnes) = first_size(after_z, 3, MAX_KG * 1000)?;
+    let (grade, after_grade) = first_size(after_tonnes, 6, MAX_GRADE)?;
+    let (zone, after_zone) = first_integer(after_grade, u64::from(MAX_ZONES))?;
+    if has_field(after_zone) {
         return Err(TextKind::Fields);
     }
     if id != before as u64 {
@@ -119,7 +119,12 @@ fn block_with(x: u16, y: u16, z: u16, kg: u64, grade: u64, zone: u8) -> Block
     }
 }
 
-/// The blocks that a text states, by identifier.
+/// Returns the blocks that a text states, in order of identifier.
+///
+/// # Errors
+///
+/// - `Fault`: the first invalid line.
+/// - `OutOfMemory`: memory was refused.
 #[tactic(auto, using(crate::proofs::models::ValidRead::few_blocks))]
 pub fn read_blocks(alloc: Global, text: &[u8]) -> Result<Blocks, OrMemory<LineFault>>
     ensures stated { Gives (λ x. x) result (blocks_in text.now) }

@@ -1,4 +1,4 @@
-//! The items of a block file and of a model file, counted. Contracts see all of them.
+//! The items of a block file and a model file, counted. Contracts see all items.
 
 ghost use Rattle.std.specs.Prelude.{◌≡◌, ◌<◌, ◌≤◌, [], length};
 ghost use Rattle.minelib_reading.specs.ModelDraft.{last_of};
@@ -12,7 +12,7 @@ use plan_parts::block::Block;
 use plan_parts::listed::past::Past;
 use std::alloc::AllocError;
 
-/// Blocks of which only the number is kept.
+/// Blocks of which only the number is stored.
 #[derive(Drop)]
 pub struct CountedBlocks {
     count: usize,
@@ -37,7 +37,7 @@ impl TakeBlocks for CountedBlocks {
 }
 
 impl CountedBlocks {
-    /// No blocks.
+    /// Makes a counter without blocks.
     pub fn new() -> CountedBlocks
         ensures { result.past ≡ [] }
     {
@@ -48,7 +48,7 @@ impl CountedBlocks {
     }
 }
 
-/// Values and coefficients of which only the numbers and the last coefficient are kept.
+/// Values and coefficients of which only the numbers and the last coefficient are stored.
 #[derive(Drop)]
 pub struct CountedItems {
     blocks: usize,
@@ -80,7 +80,7 @@ impl TakeItems for CountedItems {
         self.coefs as usize
     }
 
-    fn is_behind(&self, coef: &Coef) -> bool {
+    fn is_after(&self, coef: &Coef) -> bool {
         match &self.last {
             Some(last) => last.comes_before(coef),
             None => true,
@@ -104,7 +104,7 @@ impl TakeItems for CountedItems {
 }
 
 impl CountedItems {
-    /// No values and no coefficients.
+    /// Makes a counter without values and coefficients.
     pub fn new() -> CountedItems
         ensures values { result.past_rows ≡ [] }
         ensures coefs { result.past_coefs ≡ [] }

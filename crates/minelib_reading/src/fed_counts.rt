@@ -1,8 +1,8 @@
-//! What the texts of feeds state, counted while the feeds give them.
+//! Counts of what feeds' texts state, made while the feeds are read.
 
-ghost use Rattle.std.specs.Prelude.{◌-◌, ◌≤◌, IfOk};
+ghost use Rattle.std.specs.Prelude.{◌≤◌, IfOk};
 ghost use Rattle.devices.specs.feeds.ReadWhole.{ReadsFeed};
-ghost use Rattle.devices.specs.declared.feeds.slurp.TheConstants.{GREATEST_LIMIT};
+ghost use Rattle.devices.specs.declared.feeds.slurp.TheConstants.{LARGEST_LIMIT};
 ghost use Rattle.minelib_reading.specs.FedCounts.{IsFedAnswer, arcs_counted, blocks_counted, model_counted};
 ghost use Rattle.plan_parts.specs.declared.ranges.TheConstants.{MAX_BLOCKS};
 
@@ -19,23 +19,23 @@ use precedence::{CountedPreds, TakePreds};
 use std::alloc::Global;
 use text_lines::fed_lines::{FedResult, read_fed};
 
-/// How many blocks the text of a feed states, or its first faulty line, in the lenient grammar of docs/formats.md. The
-/// feed is read to its end in either case, and memory grows with the longest line, not with the text.
+/// Returns the number of blocks that a feed's text states, or its first invalid line, in the lenient grammar of docs/formats.md.
+/// Reads the feed to its end in either case. Memory grows with the longest line, not with the text.
 ///
 /// # Errors
 ///
-/// Those of `read_fed`.
-#[tactic(auto, using(crate::proofs::counts::FedAnswers::blocks_told, crate::proofs::counts::FedAnswers::blocks_faulty))]
+/// Fails like `read_fed`.
+#[tactic(auto, using(crate::proofs::counts::FedAnswers::blocks_reported, crate::proofs::counts::FedAnswers::blocks_invalid))]
 pub fn count_blocks<F: Feed>(alloc: Global, feed: &mut F, limit: u64) -> FedResult<usize>
-    requires { limit ≤ GREATEST_LIMIT }
+    requires { limit ≤ LARGEST_LIMIT }
 
-    // What an answer tells of the text.
-    ensures counts { IfOk result (IsFedAnswer blocks_counted (F.left feed.old) limit
-        (F.given feed.new - F.given feed.old)) }
+    // What a result shows of the text.
+    ensures counts { IfOk result (IsFedAnswer blocks_counted limit (F.state feed.old) (F.state feed.new)) }
     ensures few { IfOk result (λ answer. IfOk answer (λ blocks. blocks ≤ MAX_BLOCKS)) }
 
-    // That the feed is used up then, when each fault comes, how much was read, and where the feed stands.
-    ensures reads { ReadsFeed F.left F.is_sure F.given F.failures limit feed.old feed.new result }
+    // After a result, the feed is at its end. The clause also states when each error occurs, the number of bytes read, and the
+    // feed's state.
+    ensures reads { ReadsFeed limit (F.state feed.old) (F.state feed.new) result }
 {
     let mut draft = BlockDraft::new(CountedBlocks::new());
     match read_fed(alloc, &mut draft, feed, limit)? {
@@ -44,13 +44,13 @@ pub fn count_blocks<F: Feed>(alloc: Global, feed: &mut F, limit: u64) -> FedResu
     }
 }
 
-/// How many predecessors the text of a feed states, of all of so many blocks, or its first faulty line. The feed is read
-/// to its end in either case.
+/// Returns the number of predecessors that a feed's text states for all of `blocks` blocks, or its first invalid line. Reads the
+/// feed to its end in either case.
 ///
 /// # Errors
 ///
-/// Those of `read_fed`.
-#[tactic(auto, using(crate::proofs::counts::FedAnswers::arcs_told, crate::proofs::counts::FedAnswers::arcs_lacking, crate::proofs::counts::FedAnswers::arcs_faulty))]
+/// Fails like `read_fed`.
+#[tactic(auto, using(crate::proofs::counts::FedAnswers::arcs_reported, crate::proofs::counts::FedAnswers::arcs_lacking, crate::proofs::counts::FedAnswers::arcs_invalid))]
 pub fn count_arcs<F: Feed>(
     alloc: Global,
     blocks: usize,
@@ -58,14 +58,15 @@ pub fn count_arcs<F: Feed>(
     limit: u64,
 ) -> FedResult<usize>
     requires few { blocks ≤ MAX_BLOCKS }
-    requires limit { limit ≤ GREATEST_LIMIT }
+    requires limit { limit ≤ LARGEST_LIMIT }
 
-    // What an answer tells of the text.
-    ensures counts { IfOk result (IsFedAnswer (arcs_counted blocks) (F.left feed.old) limit
-        (F.given feed.new - F.given feed.old)) }
+    // What a result shows of the text.
+    ensures counts { IfOk result (IsFedAnswer (arcs_counted blocks) limit (F.state feed.old)
+        (F.state feed.new)) }
 
-    // That the feed is used up then, when each fault comes, how much was read, and where the feed stands.
-    ensures reads { ReadsFeed F.left F.is_sure F.given F.failures limit feed.old feed.new result }
+    // After a result, the feed is at its end. The clause also states when each error occurs, the number of bytes read, and the
+    // feed's state.
+    ensures reads { ReadsFeed limit (F.state feed.old) (F.state feed.new) result }
 {
     let mut draft = PrecDraft::new(alloc, CountedPreds::new(), blocks);
     match read_fed(alloc, &mut draft, feed, limit)? {
@@ -78,13 +79,13 @@ pub fn count_arcs<F: Feed>(
     }
 }
 
-/// How many coefficients and how many limits the model file of a problem states that a feed gives, of so many blocks, or
-/// its first faulty line. The feed is read to its end in either case.
+/// Returns the numbers of coefficients and limits that a problem's model file states for `blocks` blocks, or its first invalid
+/// line. The file is a feed's text. Reads the feed to its end in either case.
 ///
 /// # Errors
 ///
-/// Those of `read_fed`.
-#[tactic(auto, using(crate::proofs::counts::FedAnswers::model_told, crate::proofs::counts::FedAnswers::model_lacking, crate::proofs::counts::FedAnswers::model_faulty))]
+/// Fails like `read_fed`.
+#[tactic(auto, using(crate::proofs::counts::FedAnswers::model_reported, crate::proofs::counts::FedAnswers::model_lacking, crate::proofs::counts::FedAnswers::model_invalid))]
 pub fn count_model<F: Feed>(
     alloc: Global,
     problem: Problem,
@@ -93,15 +94,15 @@ pub fn count_model<F: Feed>(
     limit: u64,
 ) -> FedResult<(usize, usize)>
     requires few { blocks ≤ MAX_BLOCKS }
-    requires limit { limit ≤ GREATEST_LIMIT }
+    requires limit { limit ≤ LARGEST_LIMIT }
 
-    // What an answer tells of the text.
+    // What a result shows of the text.
     ensures counts { IfOk result
-        (IsFedAnswer (model_counted problem blocks) (F.left feed.old) limit
-        (F.given feed.new - F.given feed.old)) }
+        (IsFedAnswer (model_counted problem blocks) limit (F.state feed.old) (F.state feed.new)) }
 
-    // That the feed is used up then, when each fault comes, how much was read, and where the feed stands.
-    ensures reads { ReadsFeed F.left F.is_sure F.given F.failures limit feed.old feed.new result }
+    // After a result, the feed is at its end. The clause also states when each error occurs, the number of bytes read, and the
+    // feed's state.
+    ensures reads { ReadsFeed limit (F.state feed.old) (F.state feed.new) result }
 {
     let mut draft = ModelDraft::new(alloc, problem, blocks, CountedItems::new());
     match read_fed(alloc, &mut draft, feed, limit)? {

@@ -1,8 +1,8 @@
-//! The items of a block file and of a model file, kept.
+//! The items of a block file and a model file, stored.
 
 ghost use Rattle.std.specs.Prelude.{◌≡◌, []};
 
-use crate::model::items::is_coef_behind;
+use crate::model::items::is_coef_after;
 use crate::taking::{TakeBlocks, TakeItems};
 use mine_instance::coefs::coef::Coef;
 use mine_instance::values::Values;
@@ -31,7 +31,7 @@ pub struct KeptItems {
 }
 
 impl KeptItems {
-    /// No values and no coefficients.
+    /// Makes a list without values and coefficients.
     pub fn new(alloc: Global) -> KeptItems
         ensures values { result.values ≡ [] }
         ensures coefs { result.coefs.items ≡ [] }
@@ -56,8 +56,8 @@ impl TakeItems for KeptItems {
         self.coefs.len()
     }
 
-    fn is_behind(&self, coef: &Coef) -> bool {
-        is_coef_behind(self.coefs.as_slice(), coef)
+    fn is_after(&self, coef: &Coef) -> bool {
+        is_coef_after(self.coefs.as_slice(), coef)
     }
 
     fn take_values(&mut self, row: &Vec<Dec>) -> Result<(), AllocError> {

@@ -1,4 +1,4 @@
-//! The readers of the MineLib texts, and the laws of reading.
+//! The readers of the MineLib files, and theorems about them.
 #![tactic(auto)]
 
 mod block_reader;

@@ -1,4 +1,4 @@
-//! Whether numbers differ, in time that is linear in how many they are.
+//! A test whether numbers are distinct, in linear time.
 
 ghost use Rattle.std.specs.Prelude.{◌≡◌, ◌<◌, ◌≤◌, length, All, IfOk};
 ghost use Rattle.minelib_reading.specs.inner.Marks.{AreClear, AreMarked, rise_above};
@@ -8,12 +8,12 @@ ghost use Rattle.plan_parts.specs.declared.ranges.TheConstants.{MAX_BLOCKS};
 use std::alloc::{AllocError, Global};
 use std::marker::Model;
 
-/// A place for each block, none of which is marked between two calls. Contracts see how many blocks there are.
+/// A mark for each block. Between two calls no mark is set. Contracts see the number of blocks.
 #[derive(Drop)]
 pub struct Marks {
     alloc: Global,
     blocks: usize,
-    // none before the first list that is marked
+    // Empty before the first list is tested.
     places: Vec<bool>,
 }
 
@@ -31,7 +31,7 @@ impl Model for Marks {
 }
 
 impl Marks {
-    /// A place for each of so many blocks. It takes no memory before a list is marked.
+    /// Makes marks for `blocks` blocks. Allocates no memory before a list is tested.
     pub fn new(alloc: Global, blocks: usize) -> Marks
         requires { blocks ≤ MAX_BLOCKS }
         ensures { result ≡ blocks }
@@ -43,7 +43,7 @@ impl Marks {
         }
     }
 
-    /// How many blocks there are.
+    /// Returns the number of blocks.
     pub fn len(&self) -> usize
         ensures value { result ≡ self.now }
         ensures few { result ≤ MAX_BLOCKS }
@@ -51,7 +51,7 @@ impl Marks {
         self.blocks
     }
 
-    /// Whether no identifier of these blocks stands twice.
+    /// Returns whether the identifiers are distinct. Each must be below the number of blocks. Fails only if memory is refused.
     pub fn all_differ(&mut self, ids: &[u32]) -> Result<bool, AllocError>
         requires { All (λ id. id < self.old) ids.now }
         ensures value { IfOk result (λ differ. differ ≡ all_differ ids.now) }
@@ -66,8 +66,8 @@ impl Marks {
     }
 }
 
-/// Whether the numbers rise, the first of them above `own`. Such numbers differ from one another and from `own`, and
-/// no mark is needed to know it.
+/// Returns whether the numbers rise and the first is above `own`. Such numbers are distinct and other than `own`, so they need no
+/// marks.
 pub fn rise_above(own: u32, ids: &[u32]) -> bool
     ensures { result ≡ rise_above own ids.now }
 {
@@ -81,7 +81,7 @@ pub fn rise_above(own: u32, ids: &[u32]) -> bool
     true
 }
 
-// Marks the numbers up to the first that is marked, and answers whether there was none.
+// Marks the numbers up to the first marked one, and returns whether there was none.
 fn mark_new(marks: &mut [bool], ids: &[u32]) -> bool
     requires below { All (λ id. id < length marks.old) ids.now }
     requires clear { AreClear marks.old }

@@ -1,4 +1,4 @@
-//! A model file: its keys, its header, its lines, and its reader.
+//! Model files: keys, header, lines, and a reader.
 
 pub mod draft;
 pub mod header;

@@ -1,4 +1,4 @@
-//! Reading a precedence file.
+//! A reader of precedence files.
 
 ghost use Rattle.std.specs.Prelude.{◌≡◌, ◌<◌, ◌≤◌, ◌&&◌, [], not, All, IfOk, OnOk, length};
 ghost use Rattle.text_lines.specs.FieldValues.{all_by};
@@ -17,13 +17,13 @@ use std::alloc::{AllocError, Global};
 use std::marker::Model;
 use text_lines::line_by_line::{Admit, read_lines};
 use text_lines::text_fault::{LineFault, TextKind};
-use text_lines::text_fields::{first_whole, has_field, lacks_two_fields};
+use text_lines::text_fields::{first_integer, has_field, lacks_two_fields};
 
-/// The predecessors of the lines so far, by identifier.
+/// The predecessors of the lines so far, in order of the blocks' identifiers.
 #[derive(Drop)]
 pub struct PrecDraft<P: TakePreds> {
     preds: P,
-    // the predecessors of the line that is read
+    // The predecessors of the line that is being read.
     ids: Vec<u32>,
     marks: Marks,
 }
@@ -40,15 +40,15 @@ impl<P: TakePreds> Admit for PrecDraft<P> {
     ghost admit_line = { admit_preds };
 
     fn admit(&mut self, line: &[u8]) -> Result<(), OrMemory<TextKind>> {
-        preds_said(line, self.preds.count(), &mut self.ids, &mut self.marks)?;
+        preds_in_line(line, self.preds.count(), &mut self.ids, &mut self.marks)?;
         self.preds.take(&self.ids)?;
         Ok(())
     }
 }
 
-// The predecessors of a line, where so many lines stand before.
+// Reads the predecessors of a line after `before` other lines into `ids`.
 #[tactic(auto, using(crate::proofs::counts::LaterLines::preds_counted, crate::proofs::counts::LaterLines::preds_by_count))]
-fn preds_said(
+fn preds_in_line(
     line: &[u8],
     before: usize,
     ids: &mut Vec<u32>,
@@ -67,7 +67,7 @@ fn preds_said(
     }
 }
 
-// The predecessors of a line of two fields or more.
+// Reads the predecessors of a line with two or more fields.
 #[tactic(auto, using(crate::proofs::counts::LaterLines::uncounted_preds_read))]
 fn uncounted_preds(
     line: &[u8],
@@ -80,9 +80,9 @@ fn uncounted_preds(
     ensures few { OnOk result ((before < MAX_BLOCKS) × (length ids.new.items ≤ MAX_BLOCKS)) }
 {
     let blocks = marks.len();
-    let (id, behind_id) = first_whole(line, blocks as u64)?;
-    let (stated, behind_stated) = first_whole(behind_id, blocks as u64)?;
-    read_ids(behind_stated, blocks, ids)?;
+    let (id, after_id) = first_integer(line, blocks as u64)?;
+    let (stated, after_stated) = first_integer(after_id, blocks as u64)?;
+    read_ids(after_stated, blocks, ids)?;
     if id != before as u64 {
         return Err(OrMemory::Fault(TextKind::Order));
     }
@@ -95,7 +95,7 @@ fn uncounted_preds(
     Ok(())
 }
 
-// Whether no number stands twice, and `own` not at all. Most lists rise, which is quicker to see than what is marked.
+// Returns whether the numbers are distinct and other than `own`. Most lists rise, which is faster to test than marks.
 #[tactic(auto, using(crate::proofs::counts::MarkFacts::rising_differ))]
 fn are_others(ids: &[u32], own: u32, marks: &mut Marks) -> Result<bool, AllocError>
     requires { All (λ id. id < marks.old) ids.now }
@@ -112,7 +112,7 @@ fn are_others(ids: &[u32], own: u32, marks: &mut Marks) -> Result<bool, AllocErr
     marks.all_differ(ids)
 }
 
-// All identifiers of a line, of so many blocks.
+// Reads all identifiers of a line, each below `blocks`.
 fn read_ids(line: &[u8], blocks: usize, ids: &mut Vec<u32>) -> Result<(), OrMemory<TextKind>>
     requires { blocks ≤ MAX_BLOCKS }
     ensures value { Leaves ids.new.items result (all_by (below_in blocks) [] (fields_of line.now)) }
@@ -121,9 +121,9 @@ fn read_ids(line: &[u8], blocks: usize, ids: &mut Vec<u32>) -> Result<(), OrMemo
     ids.clear();
     let mut rest = line;
     while has_field(rest) {
-        let (id, behind) = first_whole(rest, blocks as u64)?;
+        let (id, following) = first_integer(rest, blocks as u64)?;
         ids.push(id as u32)?;
-        rest = behind;
+        rest = following;
     }
     Ok(())
 }
@@ -135,7 +135,7 @@ fn stands_in(ids: &[u32], id: u32) -> bool
 }
 
 impl<P: TakePreds + Drop> PrecDraft<P> {
-    /// Before the first line. `none` takes the lists, and has none yet.
+    /// Makes a draft before the first line. `none` receives the lists, and must have none yet.
     pub fn new(alloc: Global, none: P, blocks: usize) -> PrecDraft<P>
         requires none { P.lists none ≡ [] }
         requires few { blocks ≤ MAX_BLOCKS }
@@ -148,7 +148,11 @@ impl<P: TakePreds + Drop> PrecDraft<P> {
         }
     }
 
-    /// The lists, once all lines are read and `end` is the number of the line after the last.
+    /// Returns the lists after all lines; `end` is the number of the line after the last.
+    ///
+    /// # Errors
+    ///
+    /// `Missing`, at the line `end`: the number of lists is not the number of blocks.
     pub fn finish(self, end: u64) -> Result<P, OrMemory<LineFault>>
         ensures { Gives P.lists result (finish_preds self.blocks end self.lists) }
     {
@@ -163,8 +167,13 @@ impl<P: TakePreds + Drop> PrecDraft<P> {
     }
 }
 
-/// The predecessors that a text states, of so many blocks.
-#[tactic(auto, using(crate::proofs::spelled::SpelledRead::preds_read))]
+/// Returns the predecessors that a text states for `blocks` blocks.
+///
+/// # Errors
+///
+/// - `Fault`: the first invalid line, or `Missing` at the line after the last.
+/// - `OutOfMemory`: memory was refused.
+#[tactic(auto, using(crate::proofs::encoded::EncodedRead::preds_read))]
 pub fn read_preds(alloc: Global, blocks: usize, text: &[u8]) -> Result<Preds, OrMemory<LineFault>>
     requires { blocks ≤ MAX_BLOCKS }
     ensures { Gives (λ lists. lists) result (preds_in blocks text.now) }

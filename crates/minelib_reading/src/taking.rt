@@ -1,9 +1,9 @@
-//! What the items of a block file and of a model file are given to, which keeps them or counts them.
+//! Receivers of the items of a block file and a model file, which store or count them.
 
 ghost use Rattle.std.specs.Prelude.{◌≡◌, ◌<◌, ◌++◌, [], ◌∷◌, ℤ, List, All, OnOk, OnErr, length, true};
 ghost use Rattle.mine_instance.specs.Order.{coef_before};
 ghost use Rattle.mine_instance.specs.declared.coefs.coef.Coef.{Coef as ACoef};
-ghost use Rattle.minelib_reading.specs.ModelDraft.{is_behind, last_of};
+ghost use Rattle.minelib_reading.specs.ModelDraft.{is_after, last_of};
 ghost use Rattle.plan_parts.specs.declared.block.Block.{Block as ABlock};
 ghost use Rattle.plan_parts.specs.declared.ranges.TheConstants.{MAX_BLOCKS};
 
@@ -12,39 +12,40 @@ use pit_units::Dec;
 use plan_parts::block::Block;
 use std::alloc::AllocError;
 
-/// Takes one block after the other.
+/// A receiver of blocks, one after the other.
 pub trait TakeBlocks {
     ghost blocks: { Self → List ABlock };
 
-    /// How many blocks there are.
+    /// Returns the number of blocks.
     fn count(&self) -> usize
         ensures value { result ≡ length (blocks self.now) };
 
-    /// Takes one more block.
+    /// Adds a block. There must be fewer than 64,000,000.
     fn take(&mut self, block: Block) -> Result<(), AllocError>
         requires { length (blocks self.old) < MAX_BLOCKS }
         ensures { OnOk result (blocks self.new ≡ blocks self.old ++ block ∷ []) };
 }
 
-/// Takes the values of one block after the other, and one coefficient after the other.
+/// A receiver of values, block after block, and of coefficients, one after the other.
 pub trait TakeItems {
     ghost values: { Self → List (List ℤ) };
 
     ghost coefs: { Self → List ACoef };
 
-    /// How many blocks have values.
+    /// Returns the number of blocks that have values.
     fn values_len(&self) -> usize
         ensures { result ≡ length (values self.now) };
 
-    /// How many coefficients there are.
+    /// Returns the number of coefficients.
     fn coefs_len(&self) -> usize
         ensures { result ≡ length (coefs self.now) };
 
-    /// Whether a coefficient comes behind the last one.
-    fn is_behind(&self, coef: &Coef) -> bool
-        ensures { result ≡ is_behind coef_before (last_of (coefs self.now)) coef.now };
+    /// Returns whether a coefficient follows the last one.
+    fn is_after(&self, coef: &Coef) -> bool
+        ensures { result ≡ is_after coef_before (last_of (coefs self.now)) coef.now };
 
-    /// Takes the values of one more block, as many as each of the others has.
+    /// Adds the values of a block; each block must have the same number of values, and there must be fewer than 64,000,000. If
+    /// memory is refused, the values are unchanged. The coefficients never change.
     fn take_values(&mut self, row: &Vec<Dec>) -> Result<(), AllocError>
         requires few { length (values self.old) < MAX_BLOCKS }
         requires width { All (λ of_block. length of_block ≡ length row.now.items) (values self.old) }
@@ -52,9 +53,9 @@ pub trait TakeItems {
         ensures refused { OnErr result (values self.new ≡ values self.old) }
         ensures coefs { coefs self.new ≡ coefs self.old };
 
-    /// Takes one more coefficient, which comes behind the last one.
+    /// Adds a coefficient, which must follow the last one. The values never change.
     fn take_coef(&mut self, coef: Coef) -> Result<(), AllocError>
-        requires next { is_behind coef_before (last_of (coefs self.old)) coef ≡ true }
+        requires next { is_after coef_before (last_of (coefs self.old)) coef ≡ true }
         requires block { coef.b < MAX_BLOCKS }
         requires destination { coef.d < 256 }
         requires resource { coef.r < 256 }

@@ -20,10 +20,10 @@ use Rattle.minelib_lines.specs.declared.header_key.HeaderKey.TheVariants as key
 use Rattle.minelib_lines.specs.declared.problem.Problem.{Problem}
 use Rattle.minelib_writing.specs.Written.{value_line}
 use Rattle.minelib_reading.proofs.keys.HeaderFacts.{KeepsOwn, all_given, contains_cases, each_key, each_with, first_given}
-use Rattle.minelib_reading.proofs.keys.KeyNumbers.{told}
+use Rattle.minelib_reading.proofs.keys.KeyNumbers.{reported}
 use Rattle.minelib_reading.proofs.models.Drafts.{heading}
-use Rattle.minelib_reading.proofs.spelled.SpelledModelBack.{key_states, section_states, values_states}
-use Rattle.minelib_reading.proofs.spelled.SpelledModelRead.{At, Now}
+use Rattle.minelib_reading.proofs.encoded.EncodedModelBack.{key_states, section_states, values_states}
+use Rattle.minelib_reading.proofs.encoded.EncodedModelRead.{At, Now}
 use Rattle.minelib_reading.specs.HeaderNumbers.{count_in, is_complete, is_given, with_key}
 use Rattle.minelib_reading.specs.ModelDraft.{ModelDraftView, blank_header, is_next, is_ready, is_whole, name_with}
 use Rattle.minelib_reading.specs.ModelKeys.{section_text}
@@ -71,12 +71,12 @@ from_coefs : (d : ModelDraftView) → is_complete d.header ≡ true → length d
 from_coefs d complete all = then_section (in_section Coefs d) Limits (word_field _ _ refl) refl refl (from_limits d complete all)
 
 -- so many blocks have no values yet
-values_left : (k : ℕ) (d : ModelDraftView) → is_complete d.header ≡ true → length d.values + k ≡ d.blocks → d.blocks ≤ 64000000
+values_remaining : (k : ℕ) (d : ModelDraftView) → is_complete d.header ≡ true → length d.values + k ≡ d.blocks → d.blocks ≤ 64000000
     → Completes (in_section Objective d)
-values_left zero d complete count few =
+values_remaining zero d complete count few =
     let all : length d.values ≡ d.blocks = omega arith in
     then_section (in_section Objective d) Coefs (word_field _ _ refl) refl (eq-eqb (length d.values) d.blocks all) (from_coefs d complete all)
-values_left (suc k) d complete count few =
+values_remaining (suc k) d complete count few =
     let destinations = count_in d.header key.Destinations in
     let vs = replicate destinations (pos 0) in
     let next : ModelDraftView = record d { values = d.values ++ vs ∷ [] } in
@@ -84,18 +84,18 @@ values_left (suc k) d complete count few =
     (length-replicate destinations (pos 0)) (All-replicate IsInDecimalRange destinations (pos 0) (omega arith)) in
     let line = line_of (value_line (length d.values) vs) in
     then_complete (in_section Objective d) (in_section Objective next) line (values_states d vs line written.1)
-    (values_left k next complete (omega (arith, length-append d.values (vs ∷ []))) few)
+    (values_remaining k next complete (omega (arith, length-append d.values (vs ∷ []))) few)
 
 from_objective : (d : ModelDraftView) → is_complete d.header ≡ true → length d.values ≤ d.blocks → d.blocks ≤ 64000000
     → Completes (in_section Objective d)
-from_objective d complete most few = values_left (d.blocks - length d.values) d complete (omega arith) few
+from_objective d complete most few = values_remaining (d.blocks - length d.values) d complete (omega arith) few
 
 -- a header that has a value for each key
 abbrev least : StatedHeader
 least = record { name = codes "X"; periods = 1; destinations = 1; resources = 0; rate = pos 0 }
 
-least_fits : (n : ℕ) → n ≤ 64000000 → IsHeader n least
-least_fits n few = record {
+smallest_fits : (n : ℕ) → n ≤ 64000000 → IsHeader n least
+smallest_fits n few = record {
   few = few;
   name = refl;
   horizon = record {
@@ -127,10 +127,10 @@ fill p n (k ∷ keys) name h few lacks = elim (cases_Bool (is_given k h)) [
       (let is : is_given j h ≡ true = subst (λ j. is_given j h ≡ true) same given in absurd cc)) new)
   | inr new ↦
       let has : has_key p k ≡ true = not-false (has_key p k) (sym (first_given p k) ∙ (lacks k new).0) in
-      let number = told least k in
+      let number = reported least k in
       let line = key_line k (key_text (type_text p) n least k) in
       then_complete (heading p n name h) (heading p n (name_with k least.name name) (with_key h k number)) line
-      (key_states (heading p n name h) least k line refl new (header_line p n least (least_fits n few) k has).1)
+      (key_states (heading p n name h) least k line refl new (header_line p n least (smallest_fits n few) k has).1)
       (fill p n keys (name_with k least.name name) (with_key h k number) few
       (each_with (λ j found. is_some found ≡ false → (is_given j (blank_header p) ≡ false) × Contains keys j) h k number
       (λ given. absurd cc) later))

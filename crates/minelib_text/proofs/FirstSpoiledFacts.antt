@@ -8,13 +8,13 @@ use Rattle.text_lines.specs.TextLines.{Line, lines_in}
 use Rattle.text_lines.specs.declared.text_fault.LineFault.{LineFault}
 use Rattle.text_lines.specs.declared.text_fault.TextKind.{TextKind}
 use Rattle.minelib_lines.specs.declared.problem.Problem.{Problem}
-use Rattle.minelib_reading.proofs.spelled.SpelledModelBack.{spelled_stated}
-use Rattle.minelib_reading.proofs.spelled.SpelledModelRead.{lines_now, stated_spelled}
-use Rattle.minelib_reading.proofs.spelled.SpelledRead.{ended_fails}
+use Rattle.minelib_reading.proofs.encoded.EncodedModelBack.{encoded_stated}
+use Rattle.minelib_reading.proofs.encoded.EncodedModelRead.{lines_now, stated_encoded}
+use Rattle.minelib_reading.proofs.encoded.EncodedRead.{ended_fails}
 use Rattle.minelib_reading.specs.ModelDraft.{ModelDraftView, blank_model, is_whole}
 use Rattle.minelib_reading.specs.ModelText.{line_stated, model_in}
 use Rattle.minelib_reading.specs.StatedModel.{stated_by}
-use Rattle.minelib_reading.specs.spelled.SpelledModel.{BeginModel, EndsEarly, IsFirstSpoiled}
+use Rattle.minelib_reading.specs.encoded.EncodedModel.{BeginModel, EndsEarly, IsFirstSpoiled}
 use Rattle.minelib_text.proofs.Completed.{completed}
 
 -- lines that state something begin a model
@@ -23,7 +23,7 @@ begins : (problem : Problem) (n : ℕ) (lines : List Line) (d : ModelDraftView) 
 begins problem n lines d few all =
     let c = completed problem n d lines few (lines_now problem n lines d all) in
     let states = lines_then line_stated (blank_model problem n) d c.last lines c.rest all c.states in
-    (c.rest, stated_by c.last, stated_spelled problem n (lines ++ c.rest) c.last (states, c.whole))
+    (c.rest, stated_by c.last, stated_encoded problem n (lines ++ c.rest) c.last (states, c.whole))
 
 not_both : (r : Result ModelDraftView LineFault) (last : ModelDraftView) (fault : LineFault) → r ≡ Ok last → r ≡ Err fault → ⊥
 not_both r last fault a b = cc
@@ -33,7 +33,7 @@ spoils : (problem : Problem) (n : ℕ) (before : List Line) (bad : Line) (d : Mo
     → read_lines line_stated (blank_model problem n) before ≡ Ok d → line_stated d bad.text ≡ Err kind
     → ¬ (BeginModel problem n (before ++ bad ∷ []))
 spoils problem n before bad d kind all fails (rest, m, are) =
-    let stated = spelled_stated problem n ((before ++ bad ∷ []) ++ rest) m are in
+    let stated = encoded_stated problem n ((before ++ bad ∷ []) ++ rest) m are in
     let lines = append_assoc before (bad ∷ []) rest in
     let stops : read_lines line_stated d (bad ∷ rest) ≡ Err (record { line = bad.number; kind = kind }) = rw fails refl in
     let fault = read_both line_stated (blank_model problem n) d before (bad ∷ rest) all ∙ stops in
@@ -49,7 +49,7 @@ bad_model problem n text fault few e =
         record {
           before = stop.before;
           bad = stop.bad;
-          behind = stop.behind;
+          following = stop.following;
           cut = stop.cut;
           place = stop.place;
           begun = begins problem n stop.before stop.state few stop.stated;
@@ -61,7 +61,7 @@ bad_model problem n text fault few e =
         kind = sym (ap (λ (f : LineFault). f.kind) h.3);
         begun = begins problem n (lines_in text) h.0 few h.1;
         no_model = λ m are.
-            let stated = spelled_stated problem n (lines_in text) m are in
+            let stated = encoded_stated problem n (lines_in text) m are in
             let same : stated.0 ≡ h.0 = same_ok {F = LineFault} stated.0 h.0 (sym stated.1.0 ∙ h.1) in
             absurd (let lacks_too : is_whole stated.0 ≡ false = ap (λ d. is_whole d) same ∙ h.2 in cc (stated.1.1, lacks_too));
       })

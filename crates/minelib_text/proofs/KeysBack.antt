@@ -23,8 +23,8 @@ use Rattle.minelib_lines.specs.declared.problem.Problem.TheVariants.{Cpit, Pcpsp
 use Rattle.minelib_reading.proofs.keys.HeaderFacts.{contains_cases, each_key}
 use Rattle.minelib_reading.proofs.keys.Keyless.{number_field}
 use Rattle.minelib_reading.proofs.lines.PrecTests.{pairs_differ}
-use Rattle.minelib_reading.specs.spelled.SpelledKeys.{IsKeyLine}
-use Rattle.minelib_reading.specs.spelled.SpelledModel.{AreHeaderLines, IsHeaderLine, SpellsKey}
+use Rattle.minelib_reading.specs.encoded.EncodedKeys.{IsKeyLine}
+use Rattle.minelib_reading.specs.encoded.EncodedModel.{AreHeaderLines, EncodesKey, IsHeaderLine}
 use Rattle.minelib_text.proofs.LinesBack.{AreWritten, none_written, numbered, then_written}
 use Rattle.minelib_text.proofs.PlainLines.{inner_field, only_field}
 use Rattle.minelib_text.proofs.WrittenNumbers.{below_written, decimal_written, within_written}
@@ -41,7 +41,7 @@ key_is_line (c ∷ cs) rest h inner = record {
 pub section_line : (word : List ℕ) → IsField word → IsLine (word ++ 58 ∷ []) × IsKeyLine word (word ++ 58 ∷ []) []
 section_line word h = (
   key_is_line word [] h refl,
-  record { before = word; behind = []; cut = refl; key_alone = only_field word h; fields_are = refl },
+  record { before = word; following = []; cut = refl; key_alone = only_field word h; fields_are = refl },
 )
 
 pub word_field : (c : ℕ) (cs : List ℕ) → list_all is_plain (c ∷ cs) ≡ true → IsField (c ∷ cs)
@@ -68,16 +68,16 @@ rate_small : (rate : ℤ) → (pos 0 ≤ℤ rate) × (rate ≤ℤ pos (10 ^ 6)) 
 rate_small (pos k) within = omega (arith, ints, within.1)
 rate_small (negsuc k) within = absurd (omega (arith, ints, within.0))
 
-key_spells : (p : Problem) (n : ℕ) (m : StatedHeader) → IsHeader n m → (k : HeaderKey) → SpellsKey p n m k (key_text (type_text p) n m k)
-key_spells p n m is key.Name = (refl, is.name)
-key_spells p n m is key.Type = refl
-key_spells p n m is key.Blocks = below_written (MAX_BLOCKS + 1) n (omega (arith, is.few)) (omega arith)
-key_spells p n m is key.Periods =
+key_encodes : (p : Problem) (n : ℕ) (m : StatedHeader) → IsHeader n m → (k : HeaderKey) → EncodesKey p n m k (key_text (type_text p) n m k)
+key_encodes p n m is key.Name = (refl, is.name)
+key_encodes p n m is key.Type = refl
+key_encodes p n m is key.Blocks = below_written (MAX_BLOCKS + 1) n (omega (arith, is.few)) (omega arith)
+key_encodes p n m is key.Periods =
     within_written 1 MAX_PERIODS m.periods is.horizon.periods_1_to_100.0 is.horizon.periods_1_to_100.1 (omega arith)
-key_spells p n m is key.Destinations = within_written 1 MAX_DESTINATIONS m.destinations is.destinations.0 is.destinations.1 (omega arith)
-key_spells p n m is key.Resources = below_written (MAX_RESOURCES + 1) m.resources (omega (arith, is.horizon.at_most_8_resources)) (omega arith)
-key_spells p n m is key.General = below_written 1 0 (omega arith) (omega arith)
-key_spells p n m is key.Rate =
+key_encodes p n m is key.Destinations = within_written 1 MAX_DESTINATIONS m.destinations is.destinations.0 is.destinations.1 (omega arith)
+key_encodes p n m is key.Resources = below_written (MAX_RESOURCES + 1) m.resources (omega (arith, is.horizon.at_most_8_resources)) (omega arith)
+key_encodes p n m is key.General = below_written 1 0 (omega arith) (omega arith)
+key_encodes p n m is key.Rate =
     (decimal_written m.rate (rate_small m.rate is.horizon.rate_0_to_1), is.horizon.rate_0_to_1.0, is.horizon.rate_0_to_1.1)
 
 -- and is a field
@@ -88,12 +88,12 @@ type_field Cpit = word_field _ _ refl
 value_field : (p : Problem) (n : ℕ) (m : StatedHeader) → IsHeader n m → (k : HeaderKey) → IsField (key_text (type_text p) n m k)
 value_field p n m is key.Name = name_field m.name is.name
 value_field p n m is key.Type = type_field p
-value_field p n m is key.Blocks = number_field 0 _ _ (key_spells p n m is key.Blocks).0
-value_field p n m is key.Periods = number_field 0 _ _ (key_spells p n m is key.Periods).0
-value_field p n m is key.Destinations = number_field 0 _ _ (key_spells p n m is key.Destinations).0
-value_field p n m is key.Resources = number_field 0 _ _ (key_spells p n m is key.Resources).0
-value_field p n m is key.General = number_field 0 _ _ (key_spells p n m is key.General).0
-value_field p n m is key.Rate = number_field 6 _ _ (key_spells p n m is key.Rate).0
+value_field p n m is key.Blocks = number_field 0 _ _ (key_encodes p n m is key.Blocks).0
+value_field p n m is key.Periods = number_field 0 _ _ (key_encodes p n m is key.Periods).0
+value_field p n m is key.Destinations = number_field 0 _ _ (key_encodes p n m is key.Destinations).0
+value_field p n m is key.Resources = number_field 0 _ _ (key_encodes p n m is key.Resources).0
+value_field p n m is key.General = number_field 0 _ _ (key_encodes p n m is key.General).0
+value_field p n m is key.Rate = number_field 6 _ _ (key_encodes p n m is key.Rate).0
 
 key_field : (k : HeaderKey) → IsField (key_word k)
 key_field key.Name = word_field _ _ refl
@@ -111,24 +111,24 @@ header_line p n m is k has =
         value = text;
         is_key = record {
           before = key_word k;
-          behind = 32 ∷ text;
+          following = 32 ∷ text;
           cut = line;
           key_alone = only_field (key_word k) (key_field k);
           fields_are = only_field text is_value;
         };
         of_problem = has;
-        says = key_spells p n m is k;
+        says = key_encodes p n m is k;
       },
     )
 
-abbrev pub SpellsHeader : Problem → ℕ → StatedHeader → ℕ → List ℕ → HeaderKey → Type 0
-SpellsHeader p n m = λ _ line k. IsHeaderLine p n m line k
+abbrev pub EncodesHeader : Problem → ℕ → StatedHeader → ℕ → List ℕ → HeaderKey → Type 0
+EncodesHeader p n m = λ _ line k. IsHeaderLine p n m line k
 
 keys_written : (p : Problem) (n : ℕ) (m : StatedHeader) → IsHeader n m → (i : ℕ) (keys : List HeaderKey) → All (λ k. has_key p k ≡ true) keys
-    → AreWritten (SpellsHeader p n m) i (key_lines (key_text (type_text p) n m) keys) keys
-keys_written p n m is i [] has = none_written (SpellsHeader p n m) i
+    → AreWritten (EncodesHeader p n m) i (key_lines (key_text (type_text p) n m) keys) keys
+keys_written p n m is i [] has = none_written (EncodesHeader p n m) i
 keys_written p n m is i (k ∷ keys) has =
-    then_written (SpellsHeader p n m) i _ _ k keys (header_line p n m is k (All-head (λ k. has_key p k ≡ true) k keys has))
+    then_written (EncodesHeader p n m) i _ _ k keys (header_line p n m is k (All-head (λ k. has_key p k ≡ true) k keys has))
     (keys_written p n m is (i + 1) keys (All-tail (λ k. has_key p k ≡ true) k keys has))
 
 -- no key stands twice among all, and each that a problem has stands among its own
@@ -161,7 +161,7 @@ header_lines p n m is =
       w.each,
       λ number. record {
         keys = keys_of p;
-        spelled = w.spelled number;
+        encoded = w.encoded number;
         once = AllPairs-filter (λ k j. k ≢ j) (has_key p) header_keys keys_differ;
         all = key_stands p;
       },

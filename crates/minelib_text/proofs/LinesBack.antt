@@ -8,7 +8,7 @@ use Rattle.std.proofs.lemmas.List.{length_push}
 use Rattle.std.proofs.lemmas.List.Elements.{All-cons, All-head, All-nil, All-tail, All-weaker}
 use Rattle.std.proofs.lemmas.List.Sums.{AllPass-from_list_all}
 use Rattle.minelib_lines.specs.Lines.{text_of, line_of, lines_from}
-use Rattle.minelib_reading.specs.spelled.SpelledLines.{AreLines}
+use Rattle.minelib_reading.specs.encoded.EncodedLines.{AreLines}
 use Rattle.text_lines.specs.TextLines.{Line, without_mark, is_skipped, numbered_lines, lines_in}
 use Rattle.text_lines.specs.TextParts.{IsLineText}
 use Rattle.text_lines.proofs.PlainText.{is_inner, IsLine, not_lf, not_cr, not_mark}
@@ -55,39 +55,39 @@ pub text_lines : (lines : List (List ℕ)) → All IsLine lines → lines_in (te
 text_lines lines h = rw (no_mark lines h, lines_again lines (All-weaker IsLine IsLineText no_lf lines h)) (all_read 1 lines h)
 
 -- lines that are read as they stand, and spell these items, of which the first has this number
-pub record AreWritten {A : Type 0} (Spells : ℕ → List ℕ → A → Type 0) (n : ℕ) (lines : List (List ℕ)) (items : List A) : Type 0 where
+pub record AreWritten {A : Type 0} (Encodes : ℕ → List ℕ → A → Type 0) (n : ℕ) (lines : List (List ℕ)) (items : List A) : Type 0 where
   pub each : All IsLine lines
-  pub spelled : (number : ℕ) → AreLines Spells n (numbered number lines) items
+  pub encoded : (number : ℕ) → AreLines Encodes n (numbered number lines) items
 
-pub none_written : {A : Type 0} (Spells : ℕ → List ℕ → A → Type 0) (n : ℕ) → AreWritten Spells n [] []
-none_written Spells n = record { each = All-nil IsLine; spelled = λ number. tt }
+pub none_written : {A : Type 0} (Encodes : ℕ → List ℕ → A → Type 0) (n : ℕ) → AreWritten Encodes n [] []
+none_written Encodes n = record { each = All-nil IsLine; encoded = λ number. tt }
 
-pub then_written : {A : Type 0} (Spells : ℕ → List ℕ → A → Type 0) (n : ℕ) (line : List ℕ) (lines : List (List ℕ)) (x : A) (items : List A)
-    → IsLine line × Spells n line x → AreWritten Spells (n + 1) lines items → AreWritten Spells n (line ∷ lines) (x ∷ items)
-then_written Spells n line lines x items here more = record {
+pub then_written : {A : Type 0} (Encodes : ℕ → List ℕ → A → Type 0) (n : ℕ) (line : List ℕ) (lines : List (List ℕ)) (x : A) (items : List A)
+    → IsLine line × Encodes n line x → AreWritten Encodes (n + 1) lines items → AreWritten Encodes n (line ∷ lines) (x ∷ items)
+then_written Encodes n line lines x items here more = record {
   each = All-cons IsLine line lines here.0 more.each;
-  spelled = λ number. (here.1, more.spelled (number + 1));
+  encoded = λ number. (here.1, more.encoded (number + 1));
 }
 
 -- the line of each item does, by the number of those before it
 abbrev pub IsEachWritten : {A : Type 0} → (ℕ → List ℕ → A → Type 0) → (ℕ → A → List (List ℕ)) → List A → Type 0
-IsEachWritten {A} Spells fields all =
+IsEachWritten {A} Encodes fields all =
     (done : List A) (x : A) (rest : List A) → all ≡ done ++ x ∷ rest
-    → IsLine (line_of (fields (length done) x)) × Spells (length done) (line_of (fields (length done) x)) x
+    → IsLine (line_of (fields (length done) x)) × Encodes (length done) (line_of (fields (length done) x)) x
 
 -- so all do
-pub items_written : {A : Type 0} (Spells : ℕ → List ℕ → A → Type 0) (fields : ℕ → A → List (List ℕ)) (all : List A)
-    → IsEachWritten Spells fields all → (n : ℕ) (done rest : List A) → n ≡ length done → all ≡ done ++ rest
-    → AreWritten Spells n (lines_from fields n rest) rest
-items_written Spells fields all each n done [] e whole = none_written Spells n
-items_written Spells fields all each n done (x ∷ rest) e whole =
-    then_written Spells n (line_of (fields n x)) (lines_from fields (n + 1) rest) x rest (rw e (each done x rest whole))
-    (items_written Spells fields all each (n + 1) (done ++ x ∷ []) rest (omega (arith, e, length_push done x))
+pub items_written : {A : Type 0} (Encodes : ℕ → List ℕ → A → Type 0) (fields : ℕ → A → List (List ℕ)) (all : List A)
+    → IsEachWritten Encodes fields all → (n : ℕ) (done rest : List A) → n ≡ length done → all ≡ done ++ rest
+    → AreWritten Encodes n (lines_from fields n rest) rest
+items_written Encodes fields all each n done [] e whole = none_written Encodes n
+items_written Encodes fields all each n done (x ∷ rest) e whole =
+    then_written Encodes n (line_of (fields n x)) (lines_from fields (n + 1) rest) x rest (rw e (each done x rest whole))
+    (items_written Encodes fields all each (n + 1) (done ++ x ∷ []) rest (omega (arith, e, length_push done x))
     (whole ∙ sym (append_assoc done (x ∷ []) rest)))
 
 -- the lines of their text spell them
-pub text_spells : {A : Type 0} (Spells : ℕ → List ℕ → A → Type 0) (fields : ℕ → A → List (List ℕ)) (all : List A)
-    → IsEachWritten Spells fields all → AreLines Spells 0 (lines_in (text_of (lines_from fields 0 all))) all
-text_spells Spells fields all each =
-    let w = items_written Spells fields all each 0 [] all refl refl in
-    subst (λ lines. AreLines Spells 0 lines all) (sym (text_lines (lines_from fields 0 all) w.each)) (w.spelled 1)
+pub text_encodes : {A : Type 0} (Encodes : ℕ → List ℕ → A → Type 0) (fields : ℕ → A → List (List ℕ)) (all : List A)
+    → IsEachWritten Encodes fields all → AreLines Encodes 0 (lines_in (text_of (lines_from fields 0 all))) all
+text_encodes Encodes fields all each =
+    let w = items_written Encodes fields all each 0 [] all refl refl in
+    subst (λ lines. AreLines Encodes 0 lines all) (sym (text_lines (lines_from fields 0 all) w.each)) (w.encoded 1)

@@ -6,11 +6,11 @@ use Rattle.std.proofs.lemmas.List.Elements.{All-append, All-cons}
 use Rattle.std.specs.List.{list_all}
 use Rattle.pit_units.specs.Decimal.{shortest}
 use Rattle.pit_units.specs.DecimalRange.{IsInDecimalRange}
-use Rattle.plan_parts.specs.PlanKept.{is_turned}
+use Rattle.plan_parts.specs.PlanInvariant.{is_turned}
 use Rattle.plan_parts.specs.declared.limit.Bound.{Bound}
 use Rattle.plan_parts.specs.declared.limit.Bound.TheVariants.{AtLeast, AtMost, Between}
 use Rattle.plan_parts.specs.declared.limit.Limit.{Limit}
-use Rattle.mine_instance.specs.Kept.{HasDecimals}
+use Rattle.mine_instance.specs.WellFormed.{HasDecimals}
 use Rattle.mine_instance.specs.declared.coefs.coef.Coef.{Coef}
 use Rattle.text_lines.proofs.PlainText.{EachField, IsField, IsLine, is_plain}
 use Rattle.text_lines.specs.TextLines.{Line, fields_of, lines_in}
@@ -24,8 +24,8 @@ use Rattle.minelib_reading.proofs.keys.Keyless.{number_field}
 use Rattle.minelib_reading.proofs.models.Places.{is_place, item_there}
 use Rattle.minelib_reading.proofs.models.ValidModel.{IsModel}
 use Rattle.minelib_reading.specs.StatedModel.{StatedModel}
-use Rattle.minelib_reading.specs.spelled.SpelledItems.{SpellsBound, SpellsCoef, SpellsLimit, SpellsValues}
-use Rattle.minelib_reading.specs.spelled.SpelledModel.{AreModelLines, IsSingle}
+use Rattle.minelib_reading.specs.encoded.EncodedItems.{EncodesBound, EncodesCoef, EncodesLimit, EncodesValues}
+use Rattle.minelib_reading.specs.encoded.EncodedModel.{AreModelLines, IsSingle}
 use Rattle.minelib_text.proofs.KeysBack.{header_lines, section_line, word_field}
 use Rattle.minelib_text.proofs.LinesBack.{IsEachWritten, items_written, numbered, numbered_both, text_lines}
 use Rattle.minelib_text.proofs.PlainLines.{plain_line}
@@ -34,16 +34,16 @@ use Rattle.minelib_text.proofs.WrittenNumbers.{below_field, below_written, decim
 -- a block's values are written as they are spelled
 pub values_line : (n destinations block : ℕ) (vs : List ℤ) → n ≤ 64000000 → block < n → length vs ≡ destinations
     → All IsInDecimalRange vs
-    → IsLine (line_of (value_line block vs)) × SpellsValues n destinations block (fields_of (line_of (value_line block vs))) vs
+    → IsLine (line_of (value_line block vs)) × EncodesValues n destinations block (fields_of (line_of (value_line block vs))) vs
 values_line n destinations block vs few low as_many kept =
     let each = decimals_written vs kept in
-    let spells : SpellsValues n destinations block (value_line block vs) vs = record {
+    let encodes : EncodesValues n destinations block (value_line block vs) vs = record {
       as_many = omega (arith, as_many, length-map vs shortest);
       id = below_written n block low (omega (arith, few));
       each = each.0;
     } in
-    plain_line (value_line block vs) (λ fields. SpellsValues n destinations block fields vs) (omega arith)
-    (below_field _ _ _ spells.id, each.1) spells
+    plain_line (value_line block vs) (λ fields. EncodesValues n destinations block fields vs) (omega arith)
+    (below_field _ _ _ encodes.id, each.1) encodes
 
 -- a coefficient, and one of a CPIT, which is of its only destination
 abbrev pub coef_text : Problem → ℕ → Coef → List (List ℕ)
@@ -52,19 +52,19 @@ coef_text Cpit n c = cpit_coef_line n c
 
 coefs_line : (p : Problem) (n destinations resources k : ℕ) (c : Coef) → n ≤ 64000000 → destinations ≤ 8 → resources ≤ 8
     → (c.b < n) × (c.d < destinations) × (c.r < resources) → IsInDecimalRange c.v → IsSingle p destinations
-    → IsLine (line_of (coef_text p k c)) × SpellsCoef p n destinations resources (fields_of (line_of (coef_text p k c))) c
+    → IsLine (line_of (coef_text p k c)) × EncodesCoef p n destinations resources (fields_of (line_of (coef_text p k c))) c
 coefs_line Pcpsp n destinations resources k c few many small within kept single =
     let b = below_written n c.b within.0 (omega (arith, few)) in
     let d = below_written destinations c.d within.1 (omega (arith, many)) in
     let r = below_written resources c.r within.2 (omega (arith, small)) in
     let v = decimal_written c.v kept in
-    plain_line (coef_line k c) (λ fields. SpellsCoef Pcpsp n destinations resources fields c) (omega arith)
+    plain_line (coef_line k c) (λ fields. EncodesCoef Pcpsp n destinations resources fields c) (omega arith)
     (below_field _ _ _ b, (below_field _ _ _ d, (below_field _ _ _ r, (number_field 6 _ _ v, tt)))) (refl, b, d, r, v)
 coefs_line Cpit n destinations resources k c few many small within kept single =
     let b = below_written n c.b within.0 (omega (arith, few)) in
     let r = below_written resources c.r within.2 (omega (arith, small)) in
     let v = decimal_written c.v kept in
-    plain_line (cpit_coef_line k c) (λ fields. SpellsCoef Cpit n destinations resources fields c) (omega arith)
+    plain_line (cpit_coef_line k c) (λ fields. EncodesCoef Cpit n destinations resources fields c) (omega arith)
     (below_field _ _ _ b, (below_field _ _ _ r, (number_field 6 _ _ v, tt))) (refl, b, omega (arith, within.1, single), r, v)
 
 -- a limit
@@ -72,7 +72,7 @@ letter : (c : ℕ) → list_all is_plain (c ∷ []) ≡ true → IsField (c ∷ 
 letter c h = record { some = omega arith; bytes = h }
 
 bound_written : (k resource period : ℕ) (bound : Bound) → HasDecimals bound
-    → SpellsBound (limit_line k (record { resource = resource; period = period; bound = bound })) bound × EachField (bound_fields bound)
+    → EncodesBound (limit_line k (record { resource = resource; period = period; bound = bound })) bound × EachField (bound_fields bound)
 bound_written k resource period (AtMost v) kept =
     let h = decimal_written v kept in ((refl, refl, h), (letter 76 refl, (number_field 6 _ _ h, tt)))
 bound_written k resource period (AtLeast v) kept =
@@ -84,12 +84,12 @@ bound_written k resource period (Between v w) kept =
 
 limits_line : (resources periods k : ℕ) (l : Limit) → resources ≤ 8 → periods ≤ 100 → l.resource < resources → l.period < periods
     → HasDecimals l.bound
-    → IsLine (line_of (limit_line k l)) × SpellsLimit resources periods (fields_of (line_of (limit_line k l))) l
+    → IsLine (line_of (limit_line k l)) × EncodesLimit resources periods (fields_of (line_of (limit_line k l))) l
 limits_line resources periods k l small short low_r low_t kept =
     let r = below_written resources l.resource low_r (omega (arith, small)) in
     let t = below_written periods l.period low_t (omega (arith, short)) in
     let bound = bound_written k l.resource l.period l.bound kept in
-    plain_line (limit_line k l) (λ fields. SpellsLimit resources periods fields l) (omega arith)
+    plain_line (limit_line k l) (λ fields. EncodesLimit resources periods fields l) (omega arith)
     (below_field _ _ _ r, (below_field _ _ _ t, bound.1)) (r, t, bound.0)
 
 -- what a model file states can be written: its numbers are decimals, and are in range and order
@@ -101,13 +101,13 @@ pub record IsWritable (p : Problem) (n : ℕ) (m : StatedModel) : Type 0 where
   pub limits : All (λ l. HasDecimals l.bound) m.limits
 
 module _ (p : Problem) (n : ℕ) (m : StatedModel) (is : IsWritable p n m) where
-  each_values : IsEachWritten (λ block line vs. SpellsValues n m.header.destinations block (fields_of line) vs) value_line m.values
+  each_values : IsEachWritten (λ block line vs. EncodesValues n m.header.destinations block (fields_of line) vs) value_line m.values
   each_values done vs rest whole =
       values_line n m.header.destinations (length done) vs is.few (omega (arith, is.model.count, is_place m.values done vs rest whole))
       (item_there m.values done vs rest whole (λ vs. length vs ≡ m.header.destinations) is.model.destinations.one_each)
       (item_there m.values done vs rest whole (λ vs. All IsInDecimalRange vs) is.values)
 
-  each_coef : IsEachWritten (λ _ line c. SpellsCoef p n m.header.destinations m.header.resources (fields_of line) c) (coef_text p) m.coefs
+  each_coef : IsEachWritten (λ _ line c. EncodesCoef p n m.header.destinations m.header.resources (fields_of line) c) (coef_text p) m.coefs
   each_coef done c rest whole =
       coefs_line p n m.header.destinations m.header.resources (length done) c is.few is.model.destinations.from_1_to_8.1
       is.model.horizon.at_most_8_resources
@@ -115,7 +115,7 @@ module _ (p : Problem) (n : ℕ) (m : StatedModel) (is : IsWritable p n m) where
       (item_there m.coefs done c rest whole (λ c. IsInDecimalRange c.v) is.coefs) is.model.single
 
   each_limit : IsEachWritten
-      (λ _ line l. SpellsLimit m.header.resources m.header.periods (fields_of line) l × (is_turned l.bound ≡ false)) limit_line m.limits
+      (λ _ line l. EncodesLimit m.header.resources m.header.periods (fields_of line) l × (is_turned l.bound ≡ false)) limit_line m.limits
   each_limit done l rest whole =
       let resources = m.header.resources in
       let periods = m.header.periods in
@@ -135,10 +135,10 @@ module _ (p : Problem) (n : ℕ) (m : StatedModel) (is : IsWritable p n m) where
         horizon = is.model.horizon;
         destinations = is.model.destinations.from_1_to_8;
       }) in
-      let values = items_written (λ block line vs. SpellsValues n m.header.destinations block (fields_of line) vs) value_line m.values each_values 0 [] m.values refl refl in
-      let coefs = items_written (λ _ line c. SpellsCoef p n m.header.destinations m.header.resources (fields_of line) c) (coef_text p) m.coefs each_coef 0 [] m.coefs refl refl in
+      let values = items_written (λ block line vs. EncodesValues n m.header.destinations block (fields_of line) vs) value_line m.values each_values 0 [] m.values refl refl in
+      let coefs = items_written (λ _ line c. EncodesCoef p n m.header.destinations m.header.resources (fields_of line) c) (coef_text p) m.coefs each_coef 0 [] m.coefs refl refl in
       let limits = items_written
-      (λ _ line l. SpellsLimit m.header.resources m.header.periods (fields_of line) l × (is_turned l.bound ≡ false)) limit_line m.limits each_limit 0 [] m.limits refl refl in
+      (λ _ line l. EncodesLimit m.header.resources m.header.periods (fields_of line) l × (is_turned l.bound ≡ false)) limit_line m.limits each_limit 0 [] m.limits refl refl in
       let of_values = lines_from value_line 0 m.values in
       let of_coefs = lines_from (coef_text p) 0 m.coefs in
       let of_limits = lines_from limit_line 0 m.limits in
@@ -177,14 +177,14 @@ module _ (p : Problem) (n : ℕ) (m : StatedModel) (is : IsWritable p n m) where
         cut = numbered_both 1 keys body_lines ∙ ap (λ more. numbered 1 keys ++ (of_objective ∷ more)) (numbered_both (first + 1) of_values later_lines
             ∙ ap (λ more. numbered (first + 1) of_values ++ (of_coefficients ∷ more)) (numbered_both (second + 1) of_coefs last_lines));
         destinations = is.model.single;
-        spell_header = header.1 1;
+        encode_header = header.1 1;
         begin_values = objective.1;
-        spell_values = values.spelled (first + 1);
+        encode_values = values.encoded (first + 1);
         all_values = is.model.count;
         begin_coefs = coefficients.1;
-        spell_coefs = coefs.spelled (second + 1);
+        encode_coefs = coefs.encoded (second + 1);
         rising_coefs = is.model.coefs.rising;
         begin_limits = bounds.1;
-        spell_limits = limits.spelled (third + 1);
+        encode_limits = limits.encoded (third + 1);
         rising_limits = is.model.limits.rising;
       }))

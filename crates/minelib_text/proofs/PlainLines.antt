@@ -36,6 +36,6 @@ fields_line [] some h = absurd (omega (arith, some))
 fields_line (f ∷ fs) some h = record { inner = line_inner (f ∷ fs) h; is_read = line_read f fs h.0 }
 
 -- what the fields spell, their line spells
-pub plain_line : (fields : List (List ℕ)) (Spells : List (List ℕ) → Type 0) → 0 < length fields → EachField fields → Spells fields
-    → IsLine (line_of fields) × Spells (fields_of (line_of fields))
-plain_line fields Spells some each h = (fields_line fields some each, subst Spells (sym (fields_again fields each)) h)
+pub plain_line : (fields : List (List ℕ)) (Encodes : List (List ℕ) → Type 0) → 0 < length fields → EachField fields → Encodes fields
+    → IsLine (line_of fields) × Encodes (fields_of (line_of fields))
+plain_line fields Encodes some each h = (fields_line fields some each, subst Encodes (sym (fields_again fields each)) h)

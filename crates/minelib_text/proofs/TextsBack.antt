@@ -5,22 +5,22 @@ use Rattle.std.proofs.lemmas.List.{length-map}
 use Rattle.std.proofs.lemmas.List.Elements.{All-cons, All-map, All-nil}
 use Rattle.pit_units.specs.DecimalRange.{IsInDecimalRange}
 use Rattle.mine_instance.specs.Instance.{Instance}
-use Rattle.mine_instance.specs.Kept.{IsKept, IsKeptCpit}
+use Rattle.mine_instance.specs.WellFormed.{IsWellFormed, IsWellFormedCpit}
 use Rattle.mine_instance.specs.Valid.{IsValid}
 use Rattle.mine_instance.specs.cpit.Cpit.{CpitParts}
-use Rattle.mine_instance.specs.cpit.CpitKept.{IsCpit}
+use Rattle.mine_instance.specs.cpit.CpitInvariant.{IsCpit}
 use Rattle.minelib_lines.specs.Lines.{line_of, lines_from}
 use Rattle.minelib_lines.specs.declared.problem.Problem.TheVariants.{Cpit, Pcpsp}
 use Rattle.minelib_writing.specs.Written.{text_blocks, text_cpit, text_pcpsp, text_prec, value_line}
-use Rattle.minelib_reading.proofs.spelled.SpelledDenotes.{spelled_cpit, spelled_denoted}
+use Rattle.minelib_reading.proofs.encoded.EncodedDenotes.{encoded_cpit, encoded_denoted}
 use Rattle.minelib_reading.specs.Denotes.{Denotes, DenotesCpit}
 use Rattle.minelib_reading.specs.StatedModel.{alone, model_of, model_of_cpit}
 use Rattle.minelib_text.proofs.BlocksBack.{blocks_back, preds_back}
 use Rattle.minelib_text.proofs.ModelBack.{IsWritable, model_back}
 
-pub written_again : (i : Instance) → IsValid i → IsKept i → Denotes (text_blocks i) (text_prec i) (text_pcpsp i) i
+pub written_again : (i : Instance) → IsValid i → IsWellFormed i → Denotes (text_blocks i) (text_prec i) (text_pcpsp i) i
 unfolding text_blocks text_prec text_pcpsp
-written_again i valid kept = spelled_denoted (text_blocks i) (text_prec i) (text_pcpsp i) i (record {
+written_again i valid kept = encoded_denoted (text_blocks i) (text_prec i) (text_pcpsp i) i (record {
   of_blocks = blocks_back i.blocks valid.lengths.few;
   of_preds = preds_back (length i.blocks) i.preds valid.lengths.few valid.lengths.preds valid.preds;
   of_model = model_back Pcpsp (length i.blocks) (model_of i) (record {
@@ -45,7 +45,7 @@ lines_from-map : {A B : Type 0} (fields : ℕ → B → List (List ℕ)) (f : A 
 lines_from-map fields f n [] = refl
 lines_from-map fields f n (x ∷ xs) = ap (λ lines. line_of (fields n (f x)) ∷ lines) (lines_from-map fields f (n + 1) xs)
 
-writable : (c : CpitParts) → IsCpit c → IsKeptCpit c → IsWritable Cpit (length c.values) (model_of_cpit c)
+writable : (c : CpitParts) → IsCpit c → IsWellFormedCpit c → IsWritable Cpit (length c.values) (model_of_cpit c)
 writable c is kept = record {
   few = is.few;
   model = record {
@@ -66,9 +66,9 @@ writable c is kept = record {
   limits = kept.limits;
 }
 
-pub written_cpit_again : (c : CpitParts) → IsCpit c → IsKeptCpit c → DenotesCpit (length c.values) (text_cpit c) c
+pub written_cpit_again : (c : CpitParts) → IsCpit c → IsWellFormedCpit c → DenotesCpit (length c.values) (text_cpit c) c
 unfolding text_cpit
 written_cpit_again c is kept =
     let lines = model_back Cpit (length c.values) (model_of_cpit c) (writable c is kept) in
-    spelled_cpit (length c.values) (text_cpit c) c
+    encoded_cpit (length c.values) (text_cpit c) c
     (rw (lines_from-map value_line alone 0 c.values) at lines)

@@ -1,4 +1,4 @@
--- The line of the values of one block, as a part of all lines, and what is known of these values.
+-- The line of one block's values as a part of all lines, and the facts about these values.
 use Rattle.std.proofs.Common.{◌≡◌, ℕ, ◌+◌, ◌<◌, List, [], ◌∷◌, ◌++◌, ℤ, length, get_or, ◌∙◌}
 use Rattle.std.specs.Prelude.{HoldsAt}
 use Rattle.std.proofs.lemmas.List.{get_or_default}

@@ -1,4 +1,4 @@
--- The texts of model files by the keys of their headers, as the code goes through them.
+-- The texts of model files by the keys of their headers, in the order of the code.
 use Rattle.std.proofs.Common.{◌≡◌, ℕ, ◌∷◌, ◌++◌, length, refl}
 use Rattle.std.specs.Prelude.{codes, decimal}
 use Rattle.plan_parts.specs.declared.limit.Bound.{Bound}
@@ -11,9 +11,9 @@ use Rattle.minelib_lines.specs.HeaderTable.{key_lines, key_text, upit_keys}
 use Rattle.minelib_lines.specs.Lines.{line_of, lines_from, text_of}
 use Rattle.minelib_lines.specs.StatedHeader.{header_of, header_of_cpit}
 use Rattle.minelib_lines.specs.declared.problem.Problem.TheVariants.{Cpit, Pcpsp}
-use Rattle.minelib_writing.specs.Written.{bound_fields, coef_line, cpit_coef_line, greatest_line, limit_line, one_value_line, section_lines, text_cpit, text_pcpsp, text_upit, value_line}
+use Rattle.minelib_writing.specs.Written.{bound_fields, coef_line, cpit_coef_line, largest_line, limit_line, one_value_line, section_lines, text_cpit, text_pcpsp, text_upit, value_line}
 
--- the line of a limit, whose bound stands at its end
+-- the line of a limit, with its bound at the end
 pub limit_text : (n : ℕ) (l : Limit)
     → line_of (limit_line n l) ≡ decimal l.resource ++ 32 ∷ (decimal l.period ++ 32 ∷ line_of (bound_fields l.bound))
 limit_text n l = of l.bound
@@ -27,7 +27,7 @@ limit_text n l = of l.bound
 -- each model file
 pub upit_by_keys : (i : Instance) → text_upit i
     ≡ text_of (key_lines (key_text (codes "UPIT") (length i.blocks) (header_of i)) upit_keys
-    ++ (codes "OBJECTIVE_FUNCTION:" ∷ lines_from greatest_line 0 i.values))
+    ++ (codes "OBJECTIVE_FUNCTION:" ∷ lines_from largest_line 0 i.values))
 unfolding text_upit
 upit_by_keys i = refl
 

@@ -10,36 +10,36 @@ use Rattle.std.proofs.lemmas.List.Folds.{concat-append, flat_map-map}
 use Rattle.std.specs.List.{concat, drop-map, flat_map, take-map}
 use Rattle.std.specs.Prelude.{◌==◌, ◌&&◌, decimal, if◌then◌else◌, IsTrue, nat_lt, slice_index_or, ℤ}
 use Rattle.pit_units.specs.Decimal.{shortest}
-use Rattle.mine_instance.specs.Greatest.{first_greatest}
+use Rattle.mine_instance.specs.Largest.{first_largest}
 use Rattle.mine_instance.specs.coefs.CoveredPairs.{coef_of}
 use Rattle.mine_instance.specs.declared.coefs.coef.Coef.{Coef}
 use Rattle.minelib_writing.specs.declared.lines.coefs.CoefForm.TheVariants.{OfChosen}
-use Rattle.minelib_writing.specs.inner.LineIn.{line_in}
+use Rattle.pit_units.specs.Line.{line_in}
 use Rattle.minelib_writing.specs.inner.CoefParts.{coef_part, coef_text, cpit_coef_text, has_values}
 
--- the line of a coefficient, whose end has its tonnes
+-- the line of a coefficient, with its tonnes at the end
 pub coef_text_is : (c : Coef)
     → coef_text c ≡ decimal c.b ++ 32 ∷ (decimal c.d ++ 32 ∷ (decimal c.r ++ 32 ∷ (shortest c.v ++ 10 ∷ [])))
 coef_text_is c = search (rules, append_assoc)
 
--- the same in a CPIT
+-- the line of a coefficient in a CPIT
 pub cpit_coef_text_is : (c : Coef) → cpit_coef_text c ≡ decimal c.b ++ 32 ∷ (decimal c.r ++ 32 ∷ (shortest c.v ++ 10 ∷ []))
 cpit_coef_text_is c = search (rules, append_assoc)
 
--- what is written before the end of a line leaves it
-pub end_kept : (front old new : List ℕ) (start end : ℕ) → start ≤ end → end ≤ 208 → length old ≡ 256 → length new ≡ 256
-    → line_in new start ≡ front ++ line_in old end → line_in new end ≡ line_in old end
-end_kept front old new start end before within wide as_wide more =
-    let count : 208 - start ≡ (end - start) + (208 - end) = omega (arith, before, within) in
+-- bytes written before the end of a line leave the end unchanged
+pub end_kept : (prefix old new : List ℕ) (start end : ℕ) → start ≤ end → end ≤ 256 → length old ≡ 304 → length new ≡ 304
+    → line_in new start ≡ prefix ++ line_in old end → line_in new end ≡ line_in old end
+end_kept prefix old new start end before within wide as_wide more =
+    let count : 256 - start ≡ (end - start) + (256 - end) = omega (arith, before, within) in
     let back : start + (end - start) ≡ end = omega (arith, before) in
-    let less : end - start ≡ length front =
+    let less : end - start ≡ length prefix =
     omega (
       arith,
       ap length more,
-      length-append front (line_in old end),
-      length-take (208 - start) (drop start new),
+      length-append prefix (line_in old end),
+      length-take (256 - start) (drop start new),
       length-drop start new,
-      length-take (208 - end) (drop end old),
+      length-take (256 - end) (drop end old),
       length-drop end old,
       before,
       within,
@@ -47,11 +47,11 @@ end_kept front old new start end before within wide as_wide more =
       as_wide,
     ) in
     sym
-    (ap (λ n. drop (end - start) (take n (drop start new))) count ∙ drop-take (end - start) (208 - end) (drop start new)
-    ∙ ap (take (208 - end)) (drop-drop (end - start) start new ∙ ap (λ n. drop n new) back))
-    ∙ ap (λ k. drop k (line_in new start)) less ∙ ap (drop (length front)) more ∙ drop-append_seam front (line_in old end)
+    (ap (λ n. drop (end - start) (take n (drop start new))) count ∙ drop-take (end - start) (256 - end) (drop start new)
+    ∙ ap (take (256 - end)) (drop-drop (end - start) start new ∙ ap (λ n. drop n new) back))
+    ∙ ap (λ k. drop k (line_in new start)) less ∙ ap (drop (length prefix)) more ∙ drop-append_seam prefix (line_in old end)
 
--- one line more
+-- the next line
 pub next_line : {X : Type 0} (f : X → List ℕ) (out now new line : List ℕ) (xs : List X) (i : ℕ) (x : X) → i < length xs → x ≡ get_or xs i x
     → now ≡ out ++ flat_map f (take i xs) → new ≡ now ++ line → line ≡ f x → new ≡ out ++ flat_map f (take (i + 1) xs)
 next_line f out now new line xs i x within read so_far more is_line =
@@ -60,7 +60,7 @@ next_line f out now new line xs i x within read so_far more is_line =
     ∙ ap (λ ys. out ++ flat_map f ys) (ap (λ y. take i xs ++ y ∷ []) read ∙ sym (take-suc xs i x within)
     ∙ ap (λ n. take n xs) one)
 
--- what holds of all coefficients of a group holds of that of a pair
+-- a property of all coefficients of a group holds for a pair's coefficient
 pub of_pair : (P : Coef → Type 0) (b : ℕ) (v : ℤ) (pairs all : List (ℕ × ℕ)) (i : ℕ) → pairs ≡ all → i < length pairs
     → All P (map (coef_of b v) all) → P (coef_of b v (get_or pairs i (0, 0)))
 of_pair P b v pairs all i is within fit =
@@ -68,9 +68,9 @@ of_pair P b v pairs all i is within fit =
     subst P (get_or-map (coef_of b v) pairs i (0, 0) d within)
     ((subst (λ ps. All P (map (coef_of b v) ps)) (sym is) fit) i d (omega (arith, within, length-map pairs (coef_of b v))))
 
--- those at a block's destination are those that are chosen
+-- the coefficients at a block's destination are the chosen ones
 pub chosen_parts : {V : Type 0} (list : V → List (List ℤ)) (values : Bor V) (b : ℕ) (v : ℤ) (destination : ℕ) (pairs : List (ℕ × ℕ))
-    → destination ≡ first_greatest (slice_index_or (list values.now) b [])
+    → destination ≡ first_largest (slice_index_or (list values.now) b [])
     → flat_map (λ c. if c.d == destination then cpit_coef_text c else []) (map (coef_of b v) pairs)
     ≡ flat_map (coef_part list (OfChosen values)) (map (coef_of b v) pairs)
 chosen_parts list values b v destination [] is = refl
@@ -78,7 +78,7 @@ chosen_parts list values b v destination (p ∷ pairs) is =
     let rest = chosen_parts list values b v destination pairs is in
     λ j. cond (p.0 == is j) (cpit_coef_text (coef_of b v p)) [] ++ rest j
 
--- the parts of a group more
+-- the parts of the next group
 pub group_parts : (f : Coef → List ℕ) (all group : List Coef) (index count n : ℕ) → group ≡ take n (drop (index + count) all)
     → concat (take (count + n) (drop index (map f all))) ≡ concat (take count (drop index (map f all))) ++ flat_map f group
 group_parts f all group index count n is =
@@ -90,7 +90,7 @@ group_parts f all group index count n is =
     ∙ ap (λ ps. concat (take count parts) ++ concat ps) next
     ∙ ap (λ text. concat (take count parts) ++ text) (concat_is (map f group) ∙ flat_map-map (λ part. part) f group)
 
--- what holds of all coefficients holds of those of a group
+-- a property of all coefficients holds for the coefficients of a group
 pub of_group : (P : Coef → Type 0) (all group : List Coef) (from n : ℕ) → from + n ≤ length all → group ≡ take n (drop from all)
     → All P all → All P group
 of_group P all group from n within is fit k d h =
@@ -99,11 +99,11 @@ of_group P all group from n within is fit k d h =
     subst P (sym (ap (λ xs. get_or xs k d) is ∙ get_or-take n (drop from all) k d low ∙ get_or-drop from all k d))
     (fit (from + k) d (omega (arith, low, within)))
 
--- of a group's coefficients is known what is of its tonnes
+-- the facts about its tonnes hold for each coefficient of a group
 pub known_of : (P : ℤ → Type 0) (b : ℕ) (v : ℤ) (pairs : List (ℕ × ℕ)) → P v → All (λ c. P c.v) (map (coef_of b v) pairs)
 known_of P b v pairs known = All-map (λ (c : Coef). P c.v) (coef_of b v) pairs (λ k d h. known)
 
--- a block that has values is one of them, and they are some
+-- a block with values is in the list, and its values are not empty
 pub has_some : {V : Type 0} (list : V → List (List ℤ)) (values : Bor V) (b : ℕ) → IsTrue (has_values list (OfChosen values) b)
     → (b < length (list values.now)) × (0 < length (slice_index_or (list values.now) b []))
 has_some list values b h = parts (length (list values.now)) (length (slice_index_or (list values.now) b [])) h
@@ -111,6 +111,6 @@ has_some list values b h = parts (length (list values.now)) (length (slice_index
     parts : (n m : ℕ) → IsTrue (nat_lt b n && nat_lt 0 m) → (b < n) × (0 < m)
     parts n m h = (grind (arith, nat_tests), grind (arith, nat_tests))
 
--- numbers that are not the same
+-- different numbers
 pub differ : (a b : ℕ) → (a ≡ b → ⊥) → (a == b) ≡ false
 differ a b h = ⊎_elim (λ same. absurd (h (eqb-true a b same))) (λ other. other) (cases_Bool (a == b))

@@ -2,7 +2,7 @@ pub mod BestFacts
 pub mod ByKeys
 pub mod ChosenFacts
 pub mod CoefFacts
-pub mod FrontGroup
+pub mod PrefixGroup
 pub mod KeptFacts
 pub mod LineFacts
 pub mod BlockLines
@@ -10,4 +10,3 @@ pub mod PartsWritten
 pub mod RunCounts
 pub mod SectionsWritten
 pub mod SpacedFacts
-pub mod numbers

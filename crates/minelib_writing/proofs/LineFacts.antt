@@ -1,4 +1,4 @@
--- The lines of a list, one an item.
+-- The lines of a list, one for each item.
 use Rattle.std.proofs.Common.{◌≡◌, ℕ, suc, zero, ◌+◌, ◌<◌, List, [], ◌∷◌, ◌++◌, length, map, take, drop, append-nil, get_or, refl, ◌∙◌, ap, sym, arith}
 use Rattle.std.proofs.lemmas.List.{get_or-map, length-map}
 use Rattle.std.proofs.Math.Seq.{drop-cons}
@@ -14,14 +14,14 @@ pub length-lines_from : {A : Type 0} (fields : ℕ → A → List (List ℕ)) (n
 length-lines_from fields n [] = refl
 length-lines_from fields n (x ∷ xs) = ap suc (length-lines_from fields (n + 1) xs)
 
--- the line at a place is that of the item there
+-- the line at a position is the line of the item there
 pub get_or-lines_from : {A : Type 0} (fields : ℕ → A → List (List ℕ)) (n i j : ℕ) (xs : List A) (d : A) → i < length xs → n + i ≡ j
     → get_or (lines_from fields n xs) i [] ≡ line_of (fields j (get_or xs i d))
 get_or-lines_from fields n i j [] d h e = absurd (omega arith)
 get_or-lines_from fields n zero j (x ∷ xs) d h e = ap (λ k. line_of (fields k x)) (omega arith)
 get_or-lines_from fields n (suc i) j (x ∷ xs) d h e = get_or-lines_from fields (n + 1) i j xs d (omega arith) (omega arith)
 
--- that of an item which stands at the place
+-- the line of the item at a position
 pub line_at : {A : Type 0} (fields : ℕ → A → List (List ℕ)) (i : ℕ) (xs : List A) (x : A) → i < length xs → x ≡ get_or xs i x
     → get_or (lines_from fields 0 xs) i [] ≡ line_of (fields i x)
 line_at fields i xs x h e = get_or-lines_from fields 0 i i xs x h (omega arith) ∙ ap (λ y. line_of (fields i y)) (sym e)
@@ -30,7 +30,7 @@ line_at fields i xs x h e = get_or-lines_from fields 0 i i xs x h (omega arith) 
 pub text_at : (lines : List (List ℕ)) (i : ℕ) → i < length lines → text_of (take 1 (drop i lines)) ≡ get_or lines i [] ++ 10 ∷ []
 text_at lines i h = ap (λ rest. text_of (take 1 rest)) (drop-cons lines i [] h) ∙ append-nil (get_or lines i [] ++ 10 ∷ [])
 
--- the part at a place is that alone
+-- the part at a position is a single part
 pub part_at : (parts : List (List ℕ)) (i : ℕ) → i < length parts → concat (take 1 (drop i parts)) ≡ get_or parts i []
 part_at parts i h = ap (λ rest. concat (take 1 rest)) (drop-cons parts i [] h) ∙ append-nil (get_or parts i [])
 
@@ -38,7 +38,7 @@ part_at parts i h = ap (λ rest. concat (take 1 rest)) (drop-cons parts i [] h) 
 pub length-line_parts : {A : Type 0} (fields : ℕ → A → List (List ℕ)) (xs : List A) → length (line_parts (lines_from fields 0 xs)) ≡ length xs
 length-line_parts fields xs = length-map (lines_from fields 0 xs) (λ line. line ++ 10 ∷ []) ∙ length-lines_from fields 0 xs
 
--- that of an item which stands at the place
+-- the part of the item at a position
 pub line_part : {A : Type 0} (fields : ℕ → A → List (List ℕ)) (i : ℕ) (xs : List A) (x : A) → i < length xs → x ≡ get_or xs i x
     → concat (take 1 (drop i (line_parts (lines_from fields 0 xs)))) ≡ line_of (fields i x) ++ 10 ∷ []
 line_part fields i xs x h e =
@@ -47,7 +47,7 @@ line_part fields i xs x h e =
     ∙ get_or-map (λ line. line ++ 10 ∷ []) lines i [] [] (omega (arith, h, length-lines_from fields 0 xs))
     ∙ ap (λ line. line ++ 10 ∷ []) (line_at fields i xs x h e)
 
--- a field, and then one for each item
+-- a field, and then a field for each item
 pub line_of-map : {A : Type 0} (first : List ℕ) (field : A → List ℕ) (xs : List A)
     → line_of (first ∷ map field xs) ≡ first ++ flat_map (λ x. 32 ∷ field x) xs
 line_of-map first field [] = sym (append-nil first)
@@ -58,7 +58,7 @@ texts_of : {A : Type 0} (fields : A → List (List ℕ)) (text : A → List ℕ)
 texts_of fields text each [] = refl
 texts_of fields text each (x ∷ xs) = rw (each x, texts_of fields text each xs) refl
 
--- the lines of keys are the texts of each
+-- the lines of keys are the texts of the keys
 pub key_texts : (text : HeaderKey → List ℕ) (keys : List HeaderKey)
     → text_of (key_lines text keys) ≡ flat_map (λ k. key_line k (text k) ++ 10 ∷ []) keys
 key_texts text keys = texts_of (λ k. (key_word k ++ codes ":") ∷ text k ∷ []) (λ k. key_line k (text k) ++ 10 ∷ []) (λ k. refl) keys

@@ -1,4 +1,4 @@
--- A run of identifiers is a part of the text of 0, 1, 2, ..
+-- A range of identifiers is a part of the text of 0, 1, 2, ..
 use Rattle.std.proofs.Common.{◌≡◌, ℕ, zero, suc, ◌+◌, ◌*◌, ◌^◌, ◌-◌, ◌<◌, ◌≤◌, List, [], ◌∷◌, ◌++◌, length, take, drop, get_or, ap, sym, ⊎_elim, ◌∙◌, arith, append_assoc, append-nil, length-append}
 use Rattle.std.specs.Prelude.{decimal}
 use Rattle.std.specs.List.{range_with_len}
@@ -19,7 +19,7 @@ range_parts a (suc m) n =
     let from : (a + 1) + m ≡ a + suc m = omega arith in
     ap (range_with_len a) long ∙ ap (λ xs. a ∷ xs) (range_parts (a + 1) m n ∙ ap (λ f. range_with_len (a + 1) m ++ range_with_len f n) from)
 
--- all below n are those below m, and the others
+-- the numbers below n are the numbers below m, and the others
 below_parts : (m n : ℕ) → m ≤ n → range_with_len 0 n ≡ range_with_len 0 m ++ range_with_len m (n - m)
 below_parts m n le =
     let long : n ≡ m + (n - m) = omega arith in
@@ -29,7 +29,7 @@ below_parts m n le =
 spaced-append : (xs ys : List ℕ) → spaced (xs ++ ys) ≡ spaced xs ++ spaced ys
 spaced-append xs ys = flat_map-append (λ id. 32 ∷ decimal id) xs ys
 
--- one more identifier
+-- the next identifier
 pub spaced_next : (first n : ℕ) → spaced (range_with_len first (n + 1)) ≡ spaced (range_with_len first n) ++ 32 ∷ decimal (first + n)
 spaced_next first n =
     ap spaced (range_parts first n 1) ∙ spaced-append (range_with_len first n) ((first + n) ∷ [])
@@ -40,7 +40,7 @@ spaced_below n =
     let last : 0 + n ≡ n = omega arith in
     spaced_next 0 n ∙ ap (λ k. spaced (range_with_len 0 n) ++ 32 ∷ decimal k) last
 
--- each takes nine bytes at most
+-- each identifier takes at most nine bytes
 pub start_within : (n : ℕ) → n ≤ 10 ^ 8 → start_in n ≤ 9 * n
 start_within zero le = omega arith
 start_within (suc n) le =
@@ -55,7 +55,7 @@ start_within (suc n) le =
       length-append (spaced (range_with_len 0 n)) (32 ∷ decimal n),
     )
 
--- one more start
+-- the next start
 pub starts_push : (starts : List ℕ) (start : ℕ) → AreStarts starts → start ≡ start_in (length starts) → AreStarts (starts ++ start ∷ [])
 starts_push starts start are is id lt = ⊎_elim
     (λ before. get_or_append_left starts (start ∷ []) 0 id before ∙ are id before)
@@ -64,23 +64,23 @@ starts_push starts start are is id lt = ⊎_elim
     ap (λ k. get_or (starts ++ start ∷ []) k 0) here ∙ get_or-append_seam starts start [] 0 ∙ is ∙ ap start_in (sym here))
     (cases_lt id (length starts))
 
--- a text of three parts, cut to the one in the middle
+-- a text of three parts, cut to the middle one
 middle : (a b c : List ℕ) → take (length (a ++ b) - length a) (drop (length a) (a ++ (b ++ c))) ≡ b
 middle a b c =
     let long : length (a ++ b) - length a ≡ length b = omega (arith, length-append a b) in
     ap (take (length (a ++ b) - length a)) (drop-append_seam a (b ++ c)) ∙ ap (λ k. take k (b ++ c)) long ∙ take-append_seam b c
 
--- up to `past` there are those before `first`, and the run
-run_behind : (first past : ℕ) → first ≤ past
+-- the identifiers before the end of a range are those before its start, and the range
+run_after : (first past : ℕ) → first ≤ past
     → spaced (range_with_len 0 past) ≡ spaced (range_with_len 0 first) ++ spaced (range_with_len first (past - first))
-run_behind first past le =
+run_after first past le =
     ap spaced (below_parts first past le) ∙ spaced-append (range_with_len 0 first) (range_with_len first (past - first))
 
 pub starts_rise : (first past : ℕ) → first ≤ past → start_in first ≤ start_in past
 starts_rise first past le =
     let a = spaced (range_with_len 0 first) in
     let b = spaced (range_with_len first (past - first)) in
-    omega (arith, ap length (run_behind first past le), length-append a b)
+    omega (arith, ap length (run_after first past le), length-append a b)
 
 pub part_of_text : (n first past : ℕ) → first ≤ past → past ≤ n
     → take (start_in past - start_in first) (drop (start_in first) (spaced (range_with_len 0 n)))
@@ -89,13 +89,13 @@ part_of_text n first past le within =
     let a = spaced (range_with_len 0 first) in
     let b = spaced (range_with_len first (past - first)) in
     let c = spaced (range_with_len past (n - past)) in
-    let to_past : spaced (range_with_len 0 past) ≡ a ++ b = run_behind first past le in
-    let whole : spaced (range_with_len 0 n) ≡ a ++ (b ++ c) = run_behind past n within ∙ ap (λ t. t ++ c) to_past ∙ append_assoc a b c in
+    let to_past : spaced (range_with_len 0 past) ≡ a ++ b = run_after first past le in
+    let whole : spaced (range_with_len 0 n) ≡ a ++ (b ++ c) = run_after past n within ∙ ap (λ t. t ++ c) to_past ∙ append_assoc a b c in
     ap (λ t. take (start_in past - start_in first) (drop (start_in first) t)) whole
     ∙ ap (λ t. take (length t - length a) (drop (length a) (a ++ (b ++ c)))) to_past
     ∙ middle a b c
 
--- what starts say of a run's text
+-- the starts give the text of a range
 pub run_within : (starts text : List ℕ) (n first past a b : ℕ) → AreStarts starts → text ≡ spaced (range_with_len 0 n) → n < length starts
     → first ≤ past → past ≤ n → a ≡ get_or starts first a → b ≡ get_or starts past b → (a ≤ b) × (b ≤ length text)
 run_within starts text n first past a b are is long le most low high =
@@ -113,7 +113,7 @@ run_is starts text n first past a b are is long le most low high =
     let at_past : b ≡ start_in past = high ∙ get_or_default starts past b 0 (omega arith) ∙ are past (omega arith) in
     (λ j. take (at_past j - at_first j) (drop (at_first j) (is j))) ∙ part_of_text n first past le most
 
--- without the space before it, one identifier's text is its digits
+-- without the space before it, the text of one identifier is its digits
 pub digits_within : (starts text : List ℕ) (n id a b : ℕ) → AreStarts starts → text ≡ spaced (range_with_len 0 n) → n < length starts
     → id < n → a ≡ get_or starts id a → b ≡ get_or starts (id + 1) b → (a + 1 ≤ b) × (b ≤ length text)
 digits_within starts text n id a b are is long lt low high =

@@ -6,7 +6,7 @@ use Rattle.minelib_writing.specs.Written.{text_blocks, text_prec, text_upit, tex
 use Rattle.minelib_lines.specs.declared.text_name.TextName.{TextName}
 use Rattle.minelib_lines.specs.declared.text_name.TextName.TheVariants as text
 
--- the contents of the file with this name; the CPIT file is that of the instance's CPIT
+-- the contents of the file with this name; the CPIT file is the file of the instance's CPIT
 abbrev pub text_named : TextName → Instance → List ℕ
 text_named text.Blocks i = text_blocks i
 text_named text.Prec i = text_prec i

@@ -7,7 +7,7 @@ use Rattle.plan_parts.specs.declared.limit.Bound.{Bound}
 use Rattle.plan_parts.specs.declared.limit.Bound.TheVariants.{AtMost, AtLeast, Between}
 use Rattle.plan_parts.specs.declared.limit.Limit.{Limit}
 use Rattle.mine_instance.specs.cpit.Cpit.{CpitParts}
-use Rattle.mine_instance.specs.Greatest.{greatest}
+use Rattle.mine_instance.specs.Largest.{largest}
 use Rattle.mine_instance.specs.Instance.{Instance}
 use Rattle.mine_instance.specs.declared.coefs.coef.Coef.{Coef}
 use Rattle.minelib_lines.specs.Lines.{line_of, lines_from, text_of}
@@ -30,8 +30,8 @@ abbrev pub one_value_line : ℕ → ℤ → List (List ℕ)
 one_value_line b value = decimal b ∷ shortest value ∷ []
 
 -- `b v` with the largest of a block's values
-abbrev pub greatest_line : ℕ → List ℤ → List (List ℕ)
-greatest_line b values = one_value_line b (greatest values)
+abbrev pub largest_line : ℕ → List ℤ → List (List ℕ)
+largest_line b values = one_value_line b (largest values)
 
 -- `b d r v`, and `b r v` in a CPIT. The line's number n is not written, here and in the line of a limit
 abbrev pub coef_line : ℕ → Coef → List (List ℕ)
@@ -81,7 +81,7 @@ upit_header i =
 unfoldable pub text_upit : Instance → List ℕ
 text_upit i =
     text_of (upit_header i
-    ++ (codes "OBJECTIVE_FUNCTION:" ∷ lines_from greatest_line 0 i.values))
+    ++ (codes "OBJECTIVE_FUNCTION:" ∷ lines_from largest_line 0 i.values))
 
 -- the PCPSP file; there are no general side constraints
 abbrev pub pcpsp_header : Instance → List (List ℕ)

@@ -1,6 +1,5 @@
 pub mod CoefParts
 pub mod IdTextFields
 pub mod KeptParts
-pub mod LineIn
 pub mod Parts
 pub mod Spaced

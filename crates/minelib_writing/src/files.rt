@@ -1,12 +1,12 @@
-//! The texts of an instance: the parts of each, and its writer, which begins the sink and writes the text. Where it is refused, the sink
-//! is as it was, or it was begun and holds the front of the text; after `SinkFailed` it refused one call, and after `OutOfMemory` none.
+//! Writes the files of an instance. Each writer begins the sink and writes the text, which has parts. After an error, the sink is
+//! unchanged, or it was begun and holds a prefix of the text; it refused one call after `SinkFailed`, and none after `OutOfMemory`.
 
 ghost use Rattle.std.specs.Prelude.{◌<◌, ◌++◌, length, All, OnOk, ⊤};
 ghost use Rattle.devices.specs.sinks.Writes.{Writes};
-ghost use Rattle.mine_instance.specs.cpit.CpitKept.{IsCpit};
+ghost use Rattle.mine_instance.specs.cpit.CpitInvariant.{IsCpit};
 ghost use Rattle.mine_instance.specs.cpit.OfCpit.{cpit as instance_cpit};
 ghost use Rattle.mine_instance.specs.Valid.{IsValid};
-ghost use Rattle.mine_instance.specs.Kept.{IsKept, IsKeptCpit};
+ghost use Rattle.mine_instance.specs.WellFormed.{IsWellFormed, IsWellFormedCpit};
 ghost use Rattle.minelib_lines.specs.KeyParts.{text_in};
 ghost use Rattle.minelib_lines.specs.HeaderTable.{key_lines};
 ghost use Rattle.minelib_lines.specs.Lines.{text_of};
@@ -20,7 +20,7 @@ use crate::keys::write_keys;
 use crate::lines::Lines;
 use crate::lines::coefs::{CoefForm, CoefLines};
 use crate::lines::preds::write_preds;
-use crate::lines::values::{GreatestLines, ValueLines};
+use crate::lines::values::{LargestLines, ValueLines};
 use crate::parts::{Parted, write_parts, write_titled};
 use crate::sections::write_sections;
 use devices::sinks::sink::Sink;
@@ -51,13 +51,13 @@ impl<'a, P: PredLists, C: CoefList, V: ValueList> Text for BlockFile<'a, P, C, V
     #[tactic(auto, unfolding(crate::specs::Written::text_blocks))]
     fn write<S: Sink>(
         &self,
-        alloc: Global,
+        _alloc: Global,
         sink: &mut S,
         buffer: &mut Vec<u8>,
     ) -> Result<(), WriteFault> {
         let instance = self.instance;
         let items = instance.blocks.as_slice();
-        write_parts(alloc, sink, buffer, &Lines { items })
+        write_parts(sink, buffer, &Lines { items })
     }
 }
 
@@ -124,31 +124,28 @@ impl<'a, P: PredLists, C: CoefList, V: ValueList> Text for UpitFile<'a, P, C, V>
     #[tactic(auto, using(crate::proofs::SectionsWritten::nothing_put))]
     fn write<S: Sink>(
         &self,
-        alloc: Global,
+        _alloc: Global,
         sink: &mut S,
         buffer: &mut Vec<u8>,
     ) -> Result<(), WriteFault> {
         let instance = self.instance;
         let values = &instance.values;
         write_keys(
-            alloc,
             sink,
             buffer,
             &KeyValues::of_instance(b"UPIT", instance),
             HeaderKey::of_upit(),
         )?;
         write_titled(
-            alloc,
             sink,
             buffer,
             b"OBJECTIVE_FUNCTION:",
-            &GreatestLines { values },
+            &LargestLines { values },
         )
     }
 }
 
-/// Begins the sink and writes the file of the ultimate pit limit problem: the greatest value of each block, in units of 100
-/// cents.
+/// Begins the sink and writes the file of the ultimate pit limit problem: the largest value of each block, in units of 100 cents.
 pub fn write_upit<P: PredLists, C: CoefList, V: ValueList, S: Sink>(
     alloc: Global,
     instance: &Instance<P, C, V>,
@@ -160,7 +157,7 @@ pub fn write_upit<P: PredLists, C: CoefList, V: ValueList, S: Sink>(
     write_text(alloc, &UpitFile { instance }, sink)
 }
 
-// A model file of three sections: what its header says and by which keys, and the lines of each section.
+// A model file of three sections: the keys and values of its header, and the lines of each section.
 #[derive(Drop)]
 struct ModelFile<'a, V: Parted, C: Parted, L: Parted> {
     header: KeyValues<'a>,
@@ -181,17 +178,17 @@ impl<'a, V: Parted, C: Parted, L: Parted> Text for ModelFile<'a, V, C, L> {
     #[tactic(auto, using(crate::proofs::SectionsWritten::nothing_put))]
     fn write<S: Sink>(
         &self,
-        alloc: Global,
+        _alloc: Global,
         sink: &mut S,
         buffer: &mut Vec<u8>,
     ) -> Result<(), WriteFault> {
-        write_keys(alloc, sink, buffer, &self.header, self.keys)?;
-        write_sections(alloc, sink, buffer, &self.values, &self.coefs, &self.limits)
+        write_keys(sink, buffer, &self.header, self.keys)?;
+        write_sections(sink, buffer, &self.values, &self.coefs, &self.limits)
     }
 }
 
-/// Begins the sink and writes the file of the production scheduling problem. Of an instance that it wrote it says what the types of
-/// the parts keep: a NAME and decimals.
+/// Begins the sink and writes the file of the production scheduling problem. After success, the instance has what the types of its parts
+/// guarantee: a NAME and decimals.
 pub fn write_pcpsp<P: PredLists, C: CoefList, V: ValueList, S: Sink>(
     alloc: Global,
     instance: &Instance<P, C, V>,
@@ -199,7 +196,7 @@ pub fn write_pcpsp<P: PredLists, C: CoefList, V: ValueList, S: Sink>(
 ) -> Result<(), WriteFault>
     requires { IsValid instance.now }
     ensures writes { Writes (text_pcpsp instance.now) (S.state sink.old) (S.state sink.new) result }
-    ensures kept { OnOk result (IsKept instance.now) }
+    ensures kept { OnOk result (IsWellFormed instance.now) }
 {
     let form: CoefForm<V> = CoefForm::OfAll;
     let file = ModelFile {
@@ -219,12 +216,12 @@ pub fn write_pcpsp<P: PredLists, C: CoefList, V: ValueList, S: Sink>(
     write_text(alloc, &file, sink)
 }
 
-/// Begins the sink and writes the file of the constrained pit limit problem. Of a CPIT that it wrote it says what the types of the
-/// parts keep, and that they are within their ranges and orders.
+/// Begins the sink and writes the file of the constrained pit limit problem. After success, the CPIT has what the types of its parts
+/// guarantee, and is a CPIT: its parts are in their ranges and orders.
 pub fn write_cpit<S: Sink>(alloc: Global, cpit: &Cpit, sink: &mut S) -> Result<(), WriteFault>
     ensures writes { Writes (text_cpit cpit.now)
         (S.state sink.old) (S.state sink.new) result }
-    ensures kept { OnOk result (IsKeptCpit cpit.now) }
+    ensures kept { OnOk result (IsWellFormedCpit cpit.now) }
     ensures is { OnOk result (IsCpit cpit.now) }
 {
     let file = ModelFile {
@@ -243,7 +240,7 @@ pub fn write_cpit<S: Sink>(alloc: Global, cpit: &Cpit, sink: &mut S) -> Result<(
     write_text(alloc, &file, sink)
 }
 
-// The same of the CPIT of an instance, which is not built: each block's destination is found when its lines are written.
+// Writes the CPIT of an instance, which is not built: each block's destination is computed when its lines are written.
 fn write_chosen<P: PredLists, C: CoefList, V: ValueList, S: Sink>(
     alloc: Global,
     instance: &Instance<P, C, V>,
@@ -252,7 +249,7 @@ fn write_chosen<P: PredLists, C: CoefList, V: ValueList, S: Sink>(
     requires { IsValid instance.now }
     ensures writes { Writes (text_cpit (instance_cpit instance.now))
         (S.state sink.old) (S.state sink.new) result }
-    ensures kept { OnOk result (IsKeptCpit (instance_cpit instance.now)) }
+    ensures kept { OnOk result (IsWellFormedCpit (instance_cpit instance.now)) }
     ensures is { OnOk result (IsCpit (instance_cpit instance.now)) }
 {
     a_valid_instance_has_a_cpit();
@@ -260,7 +257,7 @@ fn write_chosen<P: PredLists, C: CoefList, V: ValueList, S: Sink>(
     let file = ModelFile {
         header: KeyValues::of_one_destination(Problem::Cpit.type_text(), instance),
         keys: Problem::Cpit.keys(),
-        values: GreatestLines { values },
+        values: LargestLines { values },
         coefs: CoefLines {
             coefs: &instance.coefs,
             form: CoefForm::OfChosen(values),
@@ -272,7 +269,7 @@ fn write_chosen<P: PredLists, C: CoefList, V: ValueList, S: Sink>(
     write_text(alloc, &file, sink)
 }
 
-/// Begins the sink and writes the text of this name, of an instance or of its CPIT.
+/// Begins the sink and writes the file with this name, of an instance or of its CPIT.
 pub fn write_named<P: PredLists, C: CoefList, V: ValueList, S: Sink>(
     alloc: Global,
     name: TextName,

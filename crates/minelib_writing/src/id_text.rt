@@ -1,4 +1,4 @@
-//! The texts of identifiers, made once for all lines.
+//! The texts of identifiers, computed once for all lines.
 
 ghost use Rattle.std.specs.Prelude.{◌≡◌, ◌+◌, ◌-◌, ◌<◌, ◌≤◌, ◌++◌, All, IfOk, OnOk, decimal, length, take, drop};
 ghost use Rattle.precedence.specs.IdRuns.{ids_of, ids_of_run};
@@ -10,12 +10,12 @@ use precedence::IdRun;
 use std::alloc::{AllocError, Global};
 use std::marker::Model;
 
-/// The text ` 0 1 2 ..` of the identifiers of so many blocks. A run of them is written by one copy of a part of it. Contracts see how
-/// many they are.
+/// The text ` 0 1 2 ..` of the identifiers of a given number of blocks. A range of them is written by copying a part of it. Contracts see
+/// their number.
 #[derive(Drop)]
 pub struct IdText {
     text: Vec<u8>,
-    // where each identifier's text begins, and where the last one's ends: each has nine bytes at most, so that all take fewer than 2^32
+    // the start of each identifier's text, and the end of the last: each has at most nine bytes, so all have fewer than 2^32
     starts: Vec<u32>,
 }
 
@@ -31,7 +31,7 @@ impl Model for IdText {
 }
 
 impl IdText {
-    /// The texts of the identifiers below `count`.
+    /// Returns the texts of the identifiers below `count`.
     pub fn below(alloc: Global, count: usize) -> Result<IdText, AllocError>
         requires { count ≤ MAX_BLOCKS }
         ensures { IfOk result (λ texts. texts ≡ count) }
@@ -58,7 +58,7 @@ impl IdText {
         out.extend_from_slice(bytes_between(self.text.as_slice(), start + 1, end))
     }
 
-    /// Appends the identifiers of runs, each behind a space.
+    /// Appends the identifiers of ranges, each after a space.
     #[inline(always)]
     pub fn append(&self, out: &mut Vec<u8>, runs: &[IdRun]) -> Result<(), AllocError>
         requires { All (λ id. id < self.now) (ids_of runs.now) }

@@ -1,4 +1,4 @@
-//! Laws of the texts: the call does nothing, and its contract states one.
+//! Theorems about the files. Each contract is a theorem; a call does nothing.
 
 ghost use Rattle.std.specs.Prelude.{◌≡◌, ◌++◌, [], ◌∷◌, ℤ, List, codes};
 ghost use Rattle.std.specs.List.{AllZip};
@@ -7,7 +7,7 @@ ghost use Rattle.minelib_lines.specs.Lines.{text_of};
 ghost use Rattle.minelib_writing.specs.TextLaws.{best_lines, IsBest};
 ghost use Rattle.minelib_writing.specs.Written.{text_upit, upit_header};
 
-/// Behind its keys a UPIT file has, for each block, one of the block's values, which none of them exceeds.
+/// Guarantees that a UPIT file has, after its keys, one of each block's values, which none of them exceeds.
 #[tactic(auto, using(crate::proofs::BestFacts::upit_is))]
 pub fn a_upit_has_the_best_values()
     ensures { (i : Instance) (best : List ℤ) → AllZip IsBest i.values best

@@ -1,4 +1,4 @@
-//! The MineLib texts of an instance, written to sinks.
+//! Writes the MineLib files of an instance to sinks.
 #![tactic(auto)]
 
 mod fields;
@@ -9,7 +9,6 @@ pub mod laws;
 mod lines;
 mod lists_file;
 mod parts;
-mod room;
 mod sections;
 
 pub use files::{write_blocks, write_cpit, write_named, write_pcpsp, write_prec, write_upit};

@@ -4,7 +4,8 @@ ghost use Rattle.std.specs.Prelude.{◌≡◌, ◌<◌, ◌++◌, ◌∷◌, [],
 ghost use Rattle.minelib_lines.specs.Lines.{line_of, lines_from};
 
 use crate::parts::Parted;
-use std::alloc::{AllocError, Global};
+use pit_units::scratch::Scratch;
+use std::alloc::AllocError;
 
 pub mod coefs;
 pub mod items;
@@ -15,12 +16,17 @@ pub mod values;
 pub trait Line {
     ghost fields: { ℕ → Self → List (List ℕ) };
 
-    /// What its type keeps of the item, as is known once its line is written.
+    /// The facts that its type guarantees for the item, known after its line is written.
     ghost kept: { Self → Type 0 };
 
-    /// Appends the line of the item, whose place in its list is `index`, with its LF. Where memory is refused a part of it may be
+    /// Appends the line of the item, whose position in its list is `index`, with its LF. If memory is refused, a prefix of it may be
     /// appended.
-    fn append(&self, alloc: Global, index: usize, out: &mut Vec<u8>) -> Result<(), AllocError>
+    fn append(
+        &self,
+        index: usize,
+        out: &mut Vec<u8>,
+        scratch: &mut Scratch,
+    ) -> Result<(), AllocError>
         ensures text { OnOk result (out.new.items
             ≡ out.old.items ++ (line_of (fields index self.now) ++ 10 ∷ [])) }
         ensures kept { OnOk result (kept self.now) };
@@ -47,13 +53,18 @@ impl<'a, T: Line> Parted for Lines<'a, T> {
         self.items.len()
     }
 
-    fn append(&self, alloc: Global, index: usize, out: &mut Vec<u8>) -> Result<usize, AllocError> {
-        item_of_line(self.items, index).append(alloc, index, out)?;
+    fn append(
+        &self,
+        index: usize,
+        out: &mut Vec<u8>,
+        scratch: &mut Scratch,
+    ) -> Result<usize, AllocError> {
+        item_of_line(self.items, index).append(index, out, scratch)?;
         Ok(1)
     }
 }
 
-// The item whose line has this place.
+// Returns the item whose line has this position.
 fn item_of_line<T>(items: &[T], index: usize) -> &T
     requires { index < length items.now }
     ensures { result.now ≡ slice_index_or items.now index result.now }

@@ -14,8 +14,8 @@ use devices::sinks::write_fault::WriteFault;
 use precedence::{IdRun, MadeLists, PredLists};
 use std::alloc::{AllocError, Global};
 
-/// Begins the sink and writes the precedence file of these lists, one for each block by identifier, each made when its line is written.
-/// Answers how many identifiers stand in them. Where it is refused the sink is left as by the writers of an instance.
+/// Begins the sink and writes the precedence file of these lists, one for each block by identifier, each computed when its line is
+/// written. Returns the number of their identifiers. After an error, the sink is as the writers of an instance leave it.
 #[tactic(auto, using(crate::proofs::SectionsWritten::cut_at_begin))]
 pub fn write_lists<M: MadeLists, S: Sink>(
     alloc: Global,
@@ -39,7 +39,7 @@ pub fn write_lists<M: MadeLists, S: Sink>(
     Ok(arcs)
 }
 
-/// How many identifiers stand in lists. Fails only where memory is refused.
+/// Returns the number of identifiers in all lists. Fails only if memory is refused.
 pub fn count_arcs<P: PredLists>(alloc: Global, preds: &P) -> Result<u128, AllocError>
     requires few { length (P.lists preds.now) ≤ MAX_BLOCKS }
     ensures { IfOk result (λ arcs. arcs ≡ sum_by length (P.lists preds.now)) }
@@ -52,7 +52,7 @@ pub fn count_arcs<P: PredLists>(alloc: Global, preds: &P) -> Result<u128, AllocE
     Ok(arcs)
 }
 
-// How many identifiers stand in the list of a block. The vector is room for their runs.
+// Returns the number of identifiers in the list of a block. The vector is scratch space for their ranges.
 fn list_len<P: PredLists>(preds: &P, id: u32, runs: &mut Vec<IdRun>) -> Result<u64, AllocError>
     requires { id < length (P.lists preds.now) }
     ensures count { IfOk result (λ n. n ≡ length (slice_index_or (P.lists preds.now) id [])) }

@@ -1,4 +1,4 @@
-//! Lines that are written part by part, in large slices to a sink.
+//! Writes lines part by part, in large slices to a sink.
 
 ghost use Rattle.std.specs.Prelude.{◌≡◌, ◌+◌, ◌<◌, ◌≤◌, ℕ, List, ◌∷◌, ◌++◌, length, drop, IfOk, IfErr, OnOk};
 ghost use Rattle.std.specs.List.{concat};
@@ -13,27 +13,33 @@ use crate::fields::append_text;
 use devices::sinks::sink::Sink;
 use devices::sinks::slices::flush_full;
 use devices::sinks::write_fault::WriteFault;
-use std::alloc::{AllocError, Global};
+use pit_units::scratch::{SCRATCH, Scratch};
+use std::alloc::AllocError;
 
-/// How many parts are appended at once at the most: a buffer that is not full has room for them.
+/// The largest number of parts that are appended at once: a buffer that is not full has the capacity for them.
 pub const MOST_AT_ONCE: usize = 512;
 
-/// Lines that are written part by part: the text of a part is no line, one, or more.
+/// Lines that are written part by part: the text of a part is zero or more lines.
 pub trait Parted {
     ghost lines: { Self → List (List ℕ) };
 
     ghost parts: { Self → List (List ℕ) };
 
-    /// What its type keeps of the part at a place, as is known once it is written.
+    /// The facts that its type guarantees for the part at a position, known after the part is written.
     ghost kept: { Self → ℕ → Type 0 };
 
     /// The number of parts.
     fn len(&self) -> usize
         ensures { result ≡ length (parts self.now) };
 
-    /// Appends the part at a place, or it and some of those behind it, and answers how many, at most `MOST_AT_ONCE`. Where memory is refused a front of their
-    /// text may be appended.
-    fn append(&self, alloc: Global, index: usize, out: &mut Vec<u8>) -> Result<usize, AllocError>
+    /// Appends the part at `index`, and perhaps some after it, and returns their number, at most `MOST_AT_ONCE`. If memory is refused, a
+    /// prefix of their text may be appended. The scratch buffer is for their lines.
+    fn append(
+        &self,
+        index: usize,
+        out: &mut Vec<u8>,
+        scratch: &mut Scratch,
+    ) -> Result<usize, AllocError>
         requires { index < length (parts self.now) }
         ensures some { IfOk result (λ n. 0 < n) }
         ensures within { IfOk result (λ n. index + n ≤ length (parts self.now)) }
@@ -46,10 +52,9 @@ pub trait Parted {
     ghost whole: { (parted : Self) → concat (parts parted) ≡ text_of (lines parted) };
 }
 
-/// Writes the lines behind what the buffer holds.
+/// Writes the lines after the bytes that the buffer holds.
 #[tactic(auto, using(crate::proofs::SectionsWritten::more_then))]
 pub fn write_parts<S: Sink, L: Parted>(
-    alloc: Global,
     sink: &mut S,
     buffer: &mut Vec<u8>,
     parted: &L,
@@ -59,22 +64,23 @@ pub fn write_parts<S: Sink, L: Parted>(
     ensures kept { OnOk result
         (HoldsFrom (L.kept parted.now) 0 (length (L.parts parted.now))) }
 {
+    let mut scratch = [0; SCRATCH];
     let mut index = 0;
     while index < parted.len() {
-        let count = write_some(alloc, sink, buffer, parted, index)?;
+        let count = write_some(sink, buffer, parted, index, &mut scratch)?;
         index += count;
     }
     Ok(())
 }
 
-// Writes one part or more, and answers how many.
+// Writes one part or more, and returns their number.
 #[tactic(auto, using(crate::proofs::SectionsWritten::nothing_put))]
 fn write_some<S: Sink, L: Parted>(
-    alloc: Global,
     sink: &mut S,
     buffer: &mut Vec<u8>,
     parted: &L,
     index: usize,
+    scratch: &mut Scratch,
 ) -> Result<usize, WriteFault>
     requires { index < length (L.parts parted.now) }
     ensures some { IfOk result (λ n. 0 < n) }
@@ -87,15 +93,14 @@ fn write_some<S: Sink, L: Parted>(
         buffer.old.items (S.state sink.old) (S.state sink.new)) }
     ensures kept { IfOk result (λ n. HoldsFrom (L.kept parted.now) index (index + n)) }
 {
-    let count = parted.append(alloc, index, buffer)?;
+    let count = parted.append(index, buffer, scratch)?;
     flush_full(sink, buffer)?;
     Ok(count)
 }
 
-/// Writes a section line and the lines under it behind what the buffer holds.
+/// Writes a section line and the lines under it after the bytes that the buffer holds.
 #[tactic(auto, using(crate::proofs::SectionsWritten::nothing_put))]
 pub fn write_titled<S: Sink, L: Parted>(
-    alloc: Global,
     sink: &mut S,
     buffer: &mut Vec<u8>,
     title: &[u8],
@@ -108,5 +113,5 @@ pub fn write_titled<S: Sink, L: Parted>(
 {
     append_text(buffer, title, b'\n')?;
     flush_full(sink, buffer)?;
-    write_parts(alloc, sink, buffer, parted)
+    write_parts(sink, buffer, parted)
 }

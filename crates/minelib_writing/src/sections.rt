@@ -1,4 +1,4 @@
-//! The objective, the coefficients and the limits, each under its section line.
+//! Writes the objective, the coefficients and the limits, each under its section line.
 
 ghost use Rattle.std.specs.Prelude.{OnOk, length};
 ghost use Rattle.minelib_lines.specs.Lines.{text_of};
@@ -9,11 +9,9 @@ ghost use Rattle.devices.specs.sinks.Writes.{WritesOn};
 use crate::parts::{Parted, write_titled};
 use devices::sinks::sink::Sink;
 use devices::sinks::write_fault::WriteFault;
-use std::alloc::Global;
 
-/// Writes the three sections behind what the buffer holds.
+/// Writes the three sections after the bytes that the buffer holds.
 pub fn write_sections<S: Sink, V: Parted, C: Parted, L: Parted>(
-    alloc: Global,
     sink: &mut S,
     buffer: &mut Vec<u8>,
     values: &V,
@@ -27,13 +25,7 @@ pub fn write_sections<S: Sink, V: Parted, C: Parted, L: Parted>(
     ensures coefs { OnOk result (HoldsFrom (C.kept coefs.now) 0 (length (C.parts coefs.now))) }
     ensures limits { OnOk result (HoldsFrom (L.kept limits.now) 0 (length (L.parts limits.now))) }
 {
-    write_titled(alloc, sink, buffer, b"OBJECTIVE_FUNCTION:", values)?;
-    write_titled(
-        alloc,
-        sink,
-        buffer,
-        b"RESOURCE_CONSTRAINT_COEFFICIENTS:",
-        coefs,
-    )?;
-    write_titled(alloc, sink, buffer, b"RESOURCE_CONSTRAINT_LIMITS:", limits)
+    write_titled(sink, buffer, b"OBJECTIVE_FUNCTION:", values)?;
+    write_titled(sink, buffer, b"RESOURCE_CONSTRAINT_COEFFICIENTS:", coefs)?;
+    write_titled(sink, buffer, b"RESOURCE_CONSTRAINT_LIMITS:", limits)
 }

@@ -1,5 +1,5 @@
-//! Worked examples on the calls of the crates below the threads, and what the program does not show of these calls. Nothing else stands
-//! here, so that no crate is proved once more for them.
+//! Worked examples for the calls of the crates without threads, and properties of these calls that the program does not show. The
+//! crate has nothing else, so no other crate is proved again for it.
 #![tactic(auto)]
 
 #[cfg(test)]

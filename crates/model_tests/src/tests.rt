@@ -14,7 +14,7 @@ mod stored_rows;
 mod texts;
 mod zone_reading;
 
-// A row of a file, of the block at this index along x, with these worths.
+// Returns a row of a file, with the block at this index along x and these worths.
 fn valued(file: u8, place: u32, x: u16, worths: &[i128]) -> Option<Valued> {
     Some(Valued {
         file,
@@ -24,7 +24,7 @@ fn valued(file: u8, place: u32, x: u16, worths: &[i128]) -> Option<Valued> {
     })
 }
 
-// Whether decimals count so many millionths.
+// Returns whether the decimals have these millionths.
 fn are_millionths(decs: &[Dec], millionths: &[i128]) -> bool {
     decs.len() == millionths.len()
         && decs

@@ -12,7 +12,7 @@ use Rattle.collector.specs.Lists.{AreLists, AreRows}
 use Rattle.lane.specs.declared.message.Taken.{Taken}
 use Rattle.lane.specs.MessageKinds.{row_count}
 use Rattle.lane.specs.Whole.{GatheredView, IsWhole}
-use Rattle.pit_compile.proofs.HandedOn.{IsOf, all_items, row-of, end-of, all-of, complete}
+use Rattle.pit_compile.proofs.PassedOn.{IsOf, all_items, row-of, end-of, all-of, complete}
 use Rattle.plan_parts.specs.declared.formulas.formula.Formula.{Formula}
 use Rattle.valuers.specs.Valuing.{items_by, rows_by}
 use Rattle.rows.specs.declared.item.Item.{Item}

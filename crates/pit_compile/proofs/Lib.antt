@@ -1,9 +1,9 @@
+pub mod AfterStartFacts
 pub mod Apart
-pub mod BehindFacts
 pub mod Collected
 pub mod Compiles
-pub mod HandedOn
 pub mod OneMoreSink
+pub mod PassedOn
 pub mod PlainRows
 pub mod Readers
 pub mod RowFacts

@@ -16,8 +16,8 @@ use Rattle.pit_units.specs.declared.or_memory.OrMemory.{OrMemory}
 use Rattle.pit_units.specs.declared.or_memory.OrMemory.TheVariants as write
 use Rattle.pit_compile.specs.SinkAnswers.{AreCutOff}
 use Rattle.pit_compile.specs.inner.SinkWriting.{in_sink}
-use Rattle.pit_compile.specs.SinkLent.{with_sink}
-use Rattle.pit_compile.specs.Sinks.{all_told, AreCutOffAt}
+use Rattle.pit_compile.specs.SinkBorrowed.{with_sink}
+use Rattle.pit_compile.specs.Sinks.{sink_states, AreCutOffAt}
 use Rattle.refusals.specs.declared.refusal.Refusal.{Refusal}
 use Rattle.refusals.specs.declared.refusal.Refusal.TheVariants.{SinkFailed, OutOfMemory}
 use Rattle.pit_compile.specs.declared.sinks.Sinks.{Sinks}
@@ -44,14 +44,14 @@ of_each P h = each (recursion_from_All P all_texts h)
 
 module _ {S : Type 0} (state : S → SinkState) (i : Instance) (old : TextName → SinkState) (sinks : Sinks S) (sink : S) where
   abbrev Held : Sinks S → TextName → Type 0
-  Held now = IsHeld i old (all_told state now)
+  Held now = IsHeld i old (sink_states state now)
 
   abbrev Same : Sinks S → TextName → Type 0
-  Same now = IsAsItWas old (all_told state now)
+  Same now = IsAsItWas old (sink_states state now)
 
   -- with this sink for a text, that of another one tells what it told
   abbrev IsStill : TextName → TextName → Type 0
-  IsStill name = IsAsItWas (all_told state sinks) (all_told state (with_sink sinks name sink))
+  IsStill name = IsAsItWas (sink_states state sinks) (sink_states state (with_sink sinks name sink))
 
   abbrev AreApart : TextName → TextName → Type 0
   AreApart name other = IsStill name other × IsStill other name
@@ -69,14 +69,14 @@ module _ {S : Type 0} (state : S → SinkState) (i : Instance) (old : TextName �
   all_apart : AllPairs AreApart all_texts
   all_apart = pairs_apart all_texts assumption
 
-  tells : (name : TextName) → all_told state (with_sink sinks name sink) name ≡ state sink
-  tells Blocks = refl
-  tells name = refl
+  reports : (name : TextName) → sink_states state (with_sink sinks name sink) name ≡ state sink
+  reports Blocks = refl
+  reports name = refl
 
   -- the sink of the text at this place told `was`, and this one stands in its place
   module _ (k : ℕ) (lt : k < length all_texts) (name : TextName) (at : name ≡ name_at k) (was : SinkState)
-      (is : was ≡ all_told state sinks name)
-      (before : All (Held sinks) (take k all_texts)) (behind : All (Same sinks) (drop k all_texts)) where
+      (is : was ≡ sink_states state sinks name)
+      (before : All (Held sinks) (take k all_texts)) (following : All (Same sinks) (drop k all_texts)) where
     abbrev now : Sinks S
     now = with_sink sinks (name_at k) sink
 
@@ -88,8 +88,8 @@ module _ {S : Type 0} (state : S → SinkState) (i : Instance) (old : TextName �
         let low : place < k = omega (arith, length-take k all_texts) in
         subst (IsStill (name_at k)) (sym (get_or-take k all_texts place Blocks low)) (all_apart place k Blocks low lt).1)
 
-    still_behind : All (IsStill (name_at k)) (drop (k + 1) all_texts)
-    still_behind = All-from_get_or (IsStill (name_at k)) (drop (k + 1) all_texts) Blocks (λ place within.
+    still_after : All (IsStill (name_at k)) (drop (k + 1) all_texts)
+    still_after = All-from_get_or (IsStill (name_at k)) (drop (k + 1) all_texts) Blocks (λ place within.
         let there : k + 1 + place < length all_texts = omega (arith, length-drop (k + 1) all_texts) in
         subst (IsStill (name_at k)) (sym (get_or-drop (k + 1) all_texts place Blocks))
         (all_apart k (k + 1 + place) Blocks (omega arith) there).0)
@@ -101,17 +101,17 @@ module _ {S : Type 0} (state : S → SinkState) (i : Instance) (old : TextName �
 
     same : All (Same now) (drop (k + 1) all_texts)
     same place d within =
-        let rest = All-rest (Same sinks) (name_at k) (drop (k + 1) all_texts) (drop k all_texts) from_here behind in
-        still_behind place d within ∙ rest place d within
+        let rest = All-rest (Same sinks) (name_at k) (drop (k + 1) all_texts) (drop k all_texts) from_here following in
+        still_after place d within ∙ rest place d within
 
     -- what holds of the step from what it told to what this one tells, holds from the old state to the new one
     moved : (P : TextName → SinkState → SinkState → Type 0) → P name was (state sink)
-        → P (name_at k) (old (name_at k)) (all_told state now (name_at k))
+        → P (name_at k) (old (name_at k)) (sink_states state now (name_at k))
     moved P h =
-        let as_it_was = All-head (Same sinks) (name_at k) (drop (k + 1) all_texts) (subst (All (Same sinks)) from_here behind) in
-        let started : was ≡ old (name_at k) = is ∙ ap (all_told state sinks) at ∙ as_it_was in
-        subst (P (name_at k) (old (name_at k))) (sym (tells (name_at k)))
-        (subst (λ told. P (name_at k) told (state sink)) started (subst (λ text. P text was (state sink)) at h))
+        let as_it_was = All-head (Same sinks) (name_at k) (drop (k + 1) all_texts) (subst (All (Same sinks)) from_here following) in
+        let started : was ≡ old (name_at k) = is ∙ ap (sink_states state sinks) at ∙ as_it_was in
+        subst (P (name_at k) (old (name_at k))) (sym (reports (name_at k)))
+        (subst (λ states. P (name_at k) states (state sink)) started (subst (λ text. P text was (state sink)) at h))
 
     pub wrote : IsWritten (text_named name i) was (state sink)
         → All (Held (with_sink sinks name sink)) (take (k + 1) all_texts) × All (Same (with_sink sinks name sink)) (drop (k + 1) all_texts)
@@ -121,12 +121,12 @@ module _ {S : Type 0} (state : S → SinkState) (i : Instance) (old : TextName �
         (All-more (Held now) all_texts k Blocks lt held (moved (λ text. IsWritten (text_named text i)) h), same)
 
     cut : (more : ℕ) → IsCutOff more (text_named name i) was (state sink)
-        → AreCutOffAt name more i old (all_told state (with_sink sinks name sink))
+        → AreCutOffAt name more i old (sink_states state (with_sink sinks name sink))
     cut more h =
-        subst (λ text. AreCutOffAt text more i old (all_told state (with_sink sinks text sink))) (sym at)
+        subst (λ text. AreCutOffAt text more i old (sink_states state (with_sink sinks text sink))) (sym at)
         record {
           before = take k all_texts;
-          behind = drop (k + 1) all_texts;
+          following = drop (k + 1) all_texts;
           order = sym (take-append-drop k all_texts) ∙ ap (λ rest. take k all_texts ++ rest) from_here;
           written = held;
           cut = moved (λ text. IsCutOff more (text_named text i)) h;
@@ -135,7 +135,7 @@ module _ {S : Type 0} (state : S → SinkState) (i : Instance) (old : TextName �
 
     pub refused : (written : Result (Unit {0}) (OrMemory SinkFault)) (refusal : Refusal)
         → Writes (text_named name i) was (state sink) written
-        → Err refusal ≡ in_sink name written → AreCutOff i old (all_told state (with_sink sinks name sink)) refusal
+        → Err refusal ≡ in_sink name written → AreCutOff i old (sink_states state (with_sink sinks name sink)) refusal
     refused (Ok done) refusal h e = absurd (cc)
     refused (Err (write.Fault fault)) refusal h e = let is : refusal ≡ SinkFailed name = cc in rw is (cut 1 h)
     refused (Err write.OutOfMemory) refusal h e = let is : refusal ≡ OutOfMemory = cc in rw is (name, cut 0 h)

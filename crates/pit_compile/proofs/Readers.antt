@@ -1,5 +1,5 @@
 -- What the answers of all readers say of the zone files.
-use Rattle.std.proofs.Common.{◌≡◌, ◌<◌, ◌≤◌, ◌+◌, ℕ, suc, List, [], ◌∷◌, Bool, true, false, nat_lt, Option, Some, None, Ok, Err, MatchOption, refl, sym, ◌∙◌, ap, subst, arith, length, map, take, replicate}
+use Rattle.std.proofs.Common.{◌≡◌, ◌<◌, ◌≤◌, ◌+◌, ℕ, suc, List, [], ◌∷◌, true, false, nat_lt, Option, Some, None, Ok, Err, MatchOption, refl, sym, ◌∙◌, ap, subst, arith, length, take, replicate}
 use Rattle.std.specs.Prelude.{slice_get, IfSome}
 use Rattle.std.specs.Option.{option_map}
 use Rattle.std.proofs.lemmas.Bool.Decides.{nat_tests}
@@ -12,6 +12,7 @@ use Rattle.plan_parts.specs.Plan.{PlanParts}
 use Rattle.run_threads.specs.MostBytes.{most_bytes}
 use Rattle.run_threads.specs.Reading.{AreRead, IsRead, IsReadTo, ReadAnswer}
 use Rattle.run_threads.specs.Refusing.{HasFailed}
+use Rattle.devices.specs.feeds.FeedState.{FeedState, all_remaining}
 use Rattle.devices.specs.declared.feeds.slurp.SlurpFault.TheVariants as slurp
 use Rattle.pit_units.specs.declared.or_memory.OrMemory.TheVariants as row
 use Rattle.zone_csv.specs.Zone.{blocks_of}
@@ -24,9 +25,9 @@ use Rattle.refusals.specs.declared.refusal.Refusal.{Refusal}
 use Rattle.refusals.specs.declared.refusal.Refusal.TheVariants.{FeedFailed, TooLong, Row, OutOfMemory}
 
 -- a file that was read is not too long, and has the fault of its rows
-fault_read : (grid : Grid) (n : ℕ) (left : Option (List ℕ)) (fault : Option RowFault) (sent : List Taken)
-    (h : IsReadTo grid n left fault sent) → file_fault grid n h.text ≡ option_map (Row n) fault
-fault_read grid n left fault sent h =
+fault_read : (grid : Grid) (n : ℕ) (remaining : Option (List ℕ)) (fault : Option RowFault) (sent : List Taken)
+    (h : IsReadTo grid n remaining fault sent) → file_fault grid n h.text ≡ option_map (Row n) fault
+fault_read grid n remaining fault sent h =
     let short : length h.text ≤ most_bytes = h.short in
     let test : nat_lt most_bytes (length h.text) ≡ false = grind (arith, nat_tests) in
     rw test (ap (option_map (Row n)) h.fault_is)
@@ -35,11 +36,11 @@ too_long : (grid : Grid) (n : ℕ) (text : List ℕ) → most_bytes < length tex
 too_long grid n text h = let test : nat_lt most_bytes (length text) ≡ true = grind (arith, nat_tests) in rw test refl
 
 -- texts that feeds may have had which had this left
-some_text : (left : Option (List ℕ)) → (text : List ℕ) × IfSome left (λ bytes. text ≡ bytes)
+some_text : (remaining : Option (List ℕ)) → (text : List ℕ) × IfSome remaining (λ bytes. text ≡ bytes)
 some_text None = ([], tt)
 some_text (Some bytes) = (bytes, refl)
 
-some_texts : (lefts : List (Option (List ℕ))) → (texts : List (List ℕ)) × AreGiven lefts texts
+some_texts : (remainders : List (Option (List ℕ))) → (texts : List (List ℕ)) × AreGiven remainders texts
 some_texts [] = ([], tt)
 some_texts (l ∷ ls) =
     let one = some_text l in
@@ -52,56 +53,56 @@ longer n =
     let above : n < n + 1 = omega arith in
     (replicate (n + 1) 0, subst (λ k. n < k) (sym count) above)
 
-long_text : (left : Option (List ℕ)) → IfSome left (λ bytes. most_bytes < length bytes)
-    → (text : List ℕ) × IfSome left (λ bytes. text ≡ bytes) × (most_bytes < length text)
+long_text : (remaining : Option (List ℕ)) → IfSome remaining (λ bytes. most_bytes < length bytes)
+    → (text : List ℕ) × IfSome remaining (λ bytes. text ≡ bytes) × (most_bytes < length text)
 long_text None h = let long = longer most_bytes in (long.0, tt, long.1)
 long_text (Some bytes) h = (bytes, refl, h)
 
 -- these texts are given, they have no fault, and this is what their files send
-pub record AreAllRead (grid : Grid) (n : ℕ) (lefts : List (Option (List ℕ))) (sents : List (List Taken)) : Type 0 where
+pub record AreAllRead (grid : Grid) (n : ℕ) (remainders : List (Option (List ℕ))) (sents : List (List Taken)) : Type 0 where
   pub texts : List (List ℕ)
-  pub given : AreGiven lefts texts
+  pub given : AreGiven remainders texts
   pub no_fault : fault_in texts grid n ≡ None
   pub sent : sents ≡ files_send n grid texts
 
--- by what feeds had left, whether they were sure, and how many pulls they had refused
-module _ {F : Type 0} (left : F → Option (List ℕ)) (is_sure : F → Bool) (failures : F → ℕ) where
+-- by the states of feeds
+module _ {F : Type 0} (state : F → FeedState) where
   -- the reader of this file failed, and the refusal says why
   pub record IsUnread (grid : Grid) (refusal : Refusal) : Type 0 where
     file : ℕ
     feed : F
     answer : ReadAnswer
     sent : List Taken
-    unread : IsRead left is_sure failures grid file feed answer sent
+    unread : IsRead state grid file feed answer sent
     is : refusal_of file answer ≡ Some refusal
 
   -- that of the file which stands this many behind the first: whatever text it has, those before it have no fault
   pub record IsFirstUnread (grid : Grid) (n : ℕ) (feeds : List F) (refusal : Refusal) : Type 0 where
     of : IsUnread grid refusal
-    behind : ℕ
-    is_file : of.file ≡ n + behind
-    stands : slice_get feeds behind ≡ Some of.feed
+    following : ℕ
+    is_file : of.file ≡ n + following
+    stands : slice_get feeds following ≡ Some of.feed
     texts : List ℕ → List (List ℕ)
-    given : (text : List ℕ) → IfSome (left of.feed) (λ bytes. text ≡ bytes) → AreGiven (map left feeds) (texts text)
-    none_before : (text : List ℕ) → fault_in (take behind (texts text)) grid n ≡ None
+    given : (text : List ℕ) → IfSome (state of.feed).remaining (λ bytes. text ≡ bytes) → AreGiven (all_remaining state feeds) (texts text)
+    none_before : (text : List ℕ) → fault_in (take following (texts text)) grid n ≡ None
     found : (text : List ℕ) (r : Refusal) → file_fault grid of.file text ≡ Some r → fault_in (texts text) grid n ≡ Some r
 
   -- what is told of the files behind one that was read
-  behind_read : (grid : Grid) (n : ℕ) (feed : F) (feeds : List F) (sent : List Taken) (sents : List (List Taken))
-      → IsReadTo grid n (left feed) None sent → (refusal : Option Refusal)
-      → MatchOption refusal (AreAllRead grid (n + 1) (map left feeds) sents) (IsFirstUnread grid (n + 1) feeds)
-      → MatchOption refusal (AreAllRead grid n (map left (feed ∷ feeds)) (sent ∷ sents)) (IsFirstUnread grid n (feed ∷ feeds))
-  behind_read grid n feed feeds sent sents h None rest = record {
+  after_read : (grid : Grid) (n : ℕ) (feed : F) (feeds : List F) (sent : List Taken) (sents : List (List Taken))
+      → IsReadTo grid n (state feed).remaining None sent → (refusal : Option Refusal)
+      → MatchOption refusal (AreAllRead grid (n + 1) (all_remaining state feeds) sents) (IsFirstUnread grid (n + 1) feeds)
+      → MatchOption refusal (AreAllRead grid n (all_remaining state (feed ∷ feeds)) (sent ∷ sents)) (IsFirstUnread grid n (feed ∷ feeds))
+  after_read grid n feed feeds sent sents h None rest = record {
     texts = h.text ∷ rest.texts;
     given = (h.given, rest.given);
-    no_fault = rw (fault_read grid n (left feed) None sent h) rest.no_fault;
+    no_fault = rw (fault_read grid n (state feed).remaining None sent h) rest.no_fault;
     sent = ap (λ s. s ∷ sents) h.sent_is ∙ ap (λ others. sent_from n 0 (blocks_of grid n h.text) ∷ others) rest.sent;
   }
-  behind_read grid n feed feeds sent sents h (Some refusal) rest =
-      let none : file_fault grid n h.text ≡ None = fault_read grid n (left feed) None sent h in
+  after_read grid n feed feeds sent sents h (Some refusal) rest =
+      let none : file_fault grid n h.text ≡ None = fault_read grid n (state feed).remaining None sent h in
       record {
         of = rest.of;
-        behind = suc rest.behind;
+        following = suc rest.following;
         is_file = rest.is_file ∙ omega arith;
         stands = rest.stands;
         texts = λ text. h.text ∷ rest.texts text;
@@ -112,12 +113,12 @@ module _ {F : Type 0} (left : F → Option (List ℕ)) (is_sure : F → Bool) (f
 
   -- the first file was not read
   first_unread : (grid : Grid) (n : ℕ) (f : F) (fs : List F) (answer : ReadAnswer) (sent : List Taken) (refusal : Refusal)
-      → IsRead left is_sure failures grid n f answer sent → refusal_of n answer ≡ Some refusal → IsFirstUnread grid n (f ∷ fs) refusal
+      → IsRead state grid n f answer sent → refusal_of n answer ≡ Some refusal → IsFirstUnread grid n (f ∷ fs) refusal
   first_unread grid n f fs answer sent refusal unread is =
-      let others = some_texts (map left fs) in
+      let others = some_texts (all_remaining state fs) in
       record {
         of = record { file = n; feed = f; answer = answer; sent = sent; unread = unread; is = is };
-        behind = 0;
+        following = 0;
         is_file = omega arith;
         stands = refl;
         texts = λ text. text ∷ others.0;
@@ -126,26 +127,26 @@ module _ {F : Type 0} (left : F → Option (List ℕ)) (is_sure : F → Bool) (f
         found = λ text r e. rw e refl;
       }
 
-  pub told : (grid : Grid) (n : ℕ) (feeds : List F) (answers : List ReadAnswer) (sents : List (List Taken))
-      → AreRead left is_sure failures grid n feeds answers sents
-      → MatchOption (refusal_in n answers) (AreAllRead grid n (map left feeds) sents) (IsFirstUnread grid n feeds)
-  told grid n [] [] [] h = record { texts = []; given = tt; no_fault = refl; sent = refl }
-  told grid n (f ∷ fs) (Ok (Ok done) ∷ answers) (s ∷ ss) h =
-      behind_read grid n f fs s ss h.0 (refusal_in (n + 1) answers) (told grid (n + 1) fs answers ss h.1)
-  told grid n (f ∷ fs) (Ok (Err (row.Fault fault)) ∷ answers) (s ∷ ss) h = first_unread grid n f fs (Ok (Err (row.Fault fault))) s (Row n fault) h.0 refl
-  told grid n (f ∷ fs) (Ok (Err row.OutOfMemory) ∷ answers) (s ∷ ss) h = first_unread grid n f fs (Ok (Err row.OutOfMemory)) s OutOfMemory h.0 refl
-  told grid n (f ∷ fs) (Err slurp.FeedFailed ∷ answers) (s ∷ ss) h = first_unread grid n f fs (Err slurp.FeedFailed) s (FeedFailed n) h.0 refl
-  told grid n (f ∷ fs) (Err slurp.TooLong ∷ answers) (s ∷ ss) h = first_unread grid n f fs (Err slurp.TooLong) s (TooLong n) h.0 refl
-  told grid n (f ∷ fs) (Err slurp.OutOfMemory ∷ answers) (s ∷ ss) h = first_unread grid n f fs (Err slurp.OutOfMemory) s OutOfMemory h.0 refl
-  told grid n _ _ _ h = absurd h
+  pub states : (grid : Grid) (n : ℕ) (feeds : List F) (answers : List ReadAnswer) (sents : List (List Taken))
+      → AreRead state grid n feeds answers sents
+      → MatchOption (refusal_in n answers) (AreAllRead grid n (all_remaining state feeds) sents) (IsFirstUnread grid n feeds)
+  states grid n [] [] [] h = record { texts = []; given = tt; no_fault = refl; sent = refl }
+  states grid n (f ∷ fs) (Ok (Ok done) ∷ answers) (s ∷ ss) h =
+      after_read grid n f fs s ss h.0 (refusal_in (n + 1) answers) (states grid (n + 1) fs answers ss h.1)
+  states grid n (f ∷ fs) (Ok (Err (row.Fault fault)) ∷ answers) (s ∷ ss) h = first_unread grid n f fs (Ok (Err (row.Fault fault))) s (Row n fault) h.0 refl
+  states grid n (f ∷ fs) (Ok (Err row.OutOfMemory) ∷ answers) (s ∷ ss) h = first_unread grid n f fs (Ok (Err row.OutOfMemory)) s OutOfMemory h.0 refl
+  states grid n (f ∷ fs) (Err slurp.FeedFailed ∷ answers) (s ∷ ss) h = first_unread grid n f fs (Err slurp.FeedFailed) s (FeedFailed n) h.0 refl
+  states grid n (f ∷ fs) (Err slurp.TooLong ∷ answers) (s ∷ ss) h = first_unread grid n f fs (Err slurp.TooLong) s (TooLong n) h.0 refl
+  states grid n (f ∷ fs) (Err slurp.OutOfMemory ∷ answers) (s ∷ ss) h = first_unread grid n f fs (Err slurp.OutOfMemory) s OutOfMemory h.0 refl
+  states grid n _ _ _ h = absurd h
 
   pub all_read : (grid : Grid) (feeds : List F) (answers : List ReadAnswer) (sents : List (List Taken))
-      → AreRead left is_sure failures grid 0 feeds answers sents → refusal_in 0 answers ≡ None → AreAllRead grid 0 (map left feeds) sents
-  all_read grid feeds answers sents h e = MatchOption-at_none _ (IsFirstUnread grid 0 feeds) e (told grid 0 feeds answers sents h)
+      → AreRead state grid 0 feeds answers sents → refusal_in 0 answers ≡ None → AreAllRead grid 0 (all_remaining state feeds) sents
+  all_read grid feeds answers sents h e = MatchOption-at_none _ (IsFirstUnread grid 0 feeds) e (states grid 0 feeds answers sents h)
 
   -- why a file was not read is why nothing is compiled
   why_unread : (plan : PlanParts) (feeds : List F) (refusal : Refusal) → IsFirstUnread plan.grid 0 feeds refusal
-      → IsNotCompiled plan (map left feeds) (HasFailed is_sure failures feeds) refusal
+      → IsNotCompiled plan (all_remaining state feeds) (HasFailed state feeds) refusal
   why_unread plan feeds refusal h = by h.of.answer h.of.unread h.of.is
     where
       file : ℕ
@@ -153,20 +154,20 @@ module _ {F : Type 0} (left : F → Option (List ℕ)) (is_sure : F → Bool) (f
 
       -- so it is of a refusal that is the one of the answer
       Why : Refusal → Type 0
-      Why why = IsNotCompiled plan (map left feeds) (HasFailed is_sure failures feeds) why
+      Why why = IsNotCompiled plan (all_remaining state feeds) (HasFailed state feeds) why
 
-      by : (answer : ReadAnswer) → IsRead left is_sure failures plan.grid file h.of.feed answer h.of.sent
+      by : (answer : ReadAnswer) → IsRead state plan.grid file h.of.feed answer h.of.sent
           → refusal_of file answer ≡ Some refusal → Why refusal
       by (Ok (Ok done)) e is = absurd cc
       by (Ok (Err (row.Fault fault))) e is =
-          let found = h.found e.text (Row file fault) (fault_read plan.grid file (left h.of.feed) (Some fault) h.of.sent e) in
+          let found = h.found e.text (Row file fault) (fault_read plan.grid file (state h.of.feed).remaining (Some fault) h.of.sent e) in
           let own : Row file fault ≡ refusal = cc in
           subst Why own (record { texts = h.texts e.text; given = h.given e.text e.given; refused = found })
       by (Ok (Err row.OutOfMemory)) e is = let own : OutOfMemory ≡ refusal = cc in subst Why own tt
       by (Err slurp.FeedFailed) e is =
-          let same : h.behind ≡ h.of.file = omega (arith, h.is_file) in
-          let some = some_text (left h.of.feed) in
-          let why : IsNotCompiled plan (map left feeds) (HasFailed is_sure failures feeds) (FeedFailed file) = record {
+          let same : h.following ≡ h.of.file = omega (arith, h.is_file) in
+          let some = some_text (state h.of.feed).remaining in
+          let why : IsNotCompiled plan (all_remaining state feeds) (HasFailed state feeds) (FeedFailed file) = record {
             texts = h.texts some.0;
             given = h.given some.0 some.1;
             none_before = subst (λ f. fault_in (take f (h.texts some.0)) plan.grid 0 ≡ None) same (h.none_before some.0);
@@ -175,22 +176,22 @@ module _ {F : Type 0} (left : F → Option (List ℕ)) (is_sure : F → Bool) (f
           let own : FeedFailed file ≡ refusal = cc in
           subst Why own why
       by (Err slurp.TooLong) e is =
-          let long = long_text (left h.of.feed) e in
+          let long = long_text (state h.of.feed).remaining e in
           let found = h.found long.0 (TooLong file) (too_long plan.grid file long.0 long.2) in
           let own : TooLong file ≡ refusal = cc in
           subst Why own (record { texts = h.texts long.0; given = h.given long.0 long.1; refused = found })
       by (Err slurp.OutOfMemory) e is = let own : OutOfMemory ≡ refusal = cc in subst Why own tt
 
   pub not_read : (plan : PlanParts) (feeds : List F) (answers : List ReadAnswer) (sents : List (List Taken))
-      (refusal : Refusal) → AreRead left is_sure failures plan.grid 0 feeds answers sents → refusal_in 0 answers ≡ Some refusal
-      → IsNotCompiled plan (map left feeds) (HasFailed is_sure failures feeds) refusal
+      (refusal : Refusal) → AreRead state plan.grid 0 feeds answers sents → refusal_in 0 answers ≡ Some refusal
+      → IsNotCompiled plan (all_remaining state feeds) (HasFailed state feeds) refusal
   not_read plan feeds answers sents refusal h e =
       why_unread plan feeds refusal (MatchOption-at_some _ (IsFirstUnread plan.grid 0 feeds) refusal e
-      (told plan.grid 0 feeds answers sents h))
+      (states plan.grid 0 feeds answers sents h))
 
   -- there are as many answers and lists as feeds
   pub as_many : (grid : Grid) (n : ℕ) (feeds : List F) (answers : List ReadAnswer) (sents : List (List Taken))
-      → AreRead left is_sure failures grid n feeds answers sents → (length answers ≡ length feeds) × (length sents ≡ length feeds)
+      → AreRead state grid n feeds answers sents → (length answers ≡ length feeds) × (length sents ≡ length feeds)
   as_many grid n [] [] [] h = (refl, refl)
   as_many grid n (f ∷ fs) (a ∷ answers) (s ∷ ss) h =
       let rest = as_many grid (n + 1) fs answers ss h.1 in (omega arith, omega arith)

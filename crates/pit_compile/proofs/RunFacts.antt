@@ -14,28 +14,28 @@ use Rattle.refusals.specs.declared.refusal.Refusal.TheVariants.{Settings, NoThre
 use Rattle.refusals.specs.declared.settings_fault.SettingsFault.{SettingsFault}
 
 -- a run that is refused before it writes
-pub not_compiled : (plan : PlanParts) (lefts : List (Option (List ℕ))) (Failed : ℕ → Type 0) (told : TextName → SinkState) (refusal : Refusal)
-    → IsNotCompiled plan lefts Failed refusal → IsRefused plan lefts Failed told told refusal
-not_compiled plan lefts Failed told (Settings kind) h = refl
-not_compiled plan lefts Failed told NoThread h = refl
-not_compiled plan lefts Failed told (FeedFailed file) h = (h, refl)
-not_compiled plan lefts Failed told (TooLong file) h = (h, refl)
-not_compiled plan lefts Failed told (Row file fault) h = (h, refl)
-not_compiled plan lefts Failed told (Same first again) h = (h, refl)
-not_compiled plan lefts Failed told (SinkFailed which) h = absurd h
-not_compiled plan lefts Failed told OutOfMemory h = inl refl
+pub not_compiled : (plan : PlanParts) (remainders : List (Option (List ℕ))) (Failed : ℕ → Type 0) (states : TextName → SinkState) (refusal : Refusal)
+    → IsNotCompiled plan remainders Failed refusal → IsRefused plan remainders Failed states states refusal
+not_compiled plan remainders Failed states (Settings kind) h = refl
+not_compiled plan remainders Failed states NoThread h = refl
+not_compiled plan remainders Failed states (FeedFailed file) h = (h, refl)
+not_compiled plan remainders Failed states (TooLong file) h = (h, refl)
+not_compiled plan remainders Failed states (Row file fault) h = (h, refl)
+not_compiled plan remainders Failed states (Same first again) h = (h, refl)
+not_compiled plan remainders Failed states (SinkFailed which) h = absurd h
+not_compiled plan remainders Failed states OutOfMemory h = inl refl
 
 -- a run that is refused in writing
-pub cut_off : (plan : PlanParts) (lefts : List (Option (List ℕ))) (Failed : ℕ → Type 0) (valuers capacity : ℕ) (old new : TextName → SinkState)
+pub cut_off : (plan : PlanParts) (remainders : List (Option (List ℕ))) (Failed : ℕ → Type 0) (valuers capacity : ℕ) (old new : TextName → SinkState)
     (c : Compiled) (refusal : Refusal)
-    → IsCompiled plan lefts valuers capacity c → AreCutOff c.instance old new refusal → IsRefused plan lefts Failed old new refusal
-cut_off plan lefts Failed valuers capacity old new c (SinkFailed which) h k =
+    → IsCompiled plan remainders valuers capacity c → AreCutOff c.instance old new refusal → IsRefused plan remainders Failed old new refusal
+cut_off plan remainders Failed valuers capacity old new c (SinkFailed which) h k =
     let cut_is = subst (λ (i : Instance). AreCutOffAt which 1 i old new) h.instance_is k in
     record { texts = h.texts; given = h.given; accepted = h.accepted; cut = cut_is }
-cut_off plan lefts Failed valuers capacity old new c OutOfMemory h k =
+cut_off plan remainders Failed valuers capacity old new c OutOfMemory h k =
     let cut_is = subst (λ (i : Instance). AreCutOffAt (k.0) 0 i old new) h.instance_is (k.1) in
     inr (k.0, record { texts = h.texts; given = h.given; accepted = h.accepted; cut = cut_is })
-cut_off plan lefts Failed valuers capacity old new c other h k = absurd k
+cut_off plan remainders Failed valuers capacity old new c other h k = absurd k
 
 -- and it is not refused for its settings
 pub cut_is_not_settings : (i : Instance) (old new : TextName → SinkState) (refusal : Refusal) (kind : SettingsFault)

@@ -32,17 +32,17 @@ none_where_suits plan files formulas settings Capacity fit h = h.2 fit.capacity_
 none_where_suits plan files formulas settings Destinations fit h = h.3 fit.destinations_fit
 
 -- the fault that an answer tells
-abbrev told_fault : SettingsFault → Result (Unit {0}) SettingsFault → SettingsFault
-told_fault other (Ok done) = other
-told_fault other (Err fault) = fault
+abbrev reported_fault : SettingsFault → Result (Unit {0}) SettingsFault → SettingsFault
+reported_fault other (Ok done) = other
+reported_fault other (Err fault) = fault
 
 -- an answer that tells a fault of the settings, or that they suit, tells it exactly
-pub told_exactly : (plan : PlanParts) (files : ℕ) (formulas : List Formula) (settings : Settings) (answer : Result (Unit {0}) SettingsFault)
+pub reported_exactly : (plan : PlanParts) (files : ℕ) (formulas : List Formula) (settings : Settings) (answer : Result (Unit {0}) SettingsFault)
     → OnOk answer (Suits plan files formulas settings) → IfErr answer (IsSettingsFault plan files formulas settings)
     → (kind : SettingsFault) → (answer ≡ Err kind) ↔ IsSettingsFault plan files formulas settings kind
-told_exactly plan files formulas settings (Ok done) fit refused kind =
+reported_exactly plan files formulas settings (Ok done) fit refused kind =
     (λ e. absurd cc, λ h. absurd (none_where_suits plan files formulas settings kind fit h))
-told_exactly plan files formulas settings (Err fault) fit refused kind = (
-  λ e. subst (λ k. IsSettingsFault plan files formulas settings k) (ap (told_fault fault) e) refused,
+reported_exactly plan files formulas settings (Err fault) fit refused kind = (
+  λ e. subst (λ k. IsSettingsFault plan files formulas settings k) (ap (reported_fault fault) e) refused,
   λ h. ap Err (only_one plan files formulas settings fault kind refused h),
 )

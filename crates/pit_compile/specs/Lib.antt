@@ -3,7 +3,7 @@ pub mod Rows
 pub mod Run
 pub mod Settings
 pub mod SinkAnswers
-pub mod SinkLent
+pub mod SinkBorrowed
 pub mod Sinks
 pub mod Starts
 pub mod Suits

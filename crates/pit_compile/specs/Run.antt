@@ -1,4 +1,4 @@
--- What a run does: what it returns, and the states of its sinks before and after. `lefts` are the bytes that its feeds had left, and
+-- What a run does: what it returns, and the states of its sinks before and after. `remainders` are the bytes that its feeds had left, and
 -- `Failed file` states that the feed of a file refused a call.
 use Rattle.std.specs.Prelude.{◌≡◌, ◌↔◌, ◌+◌, ◌≤◌, ℕ, ◌⊎◌, List, length, Option, Result, Err, IfOk, IfErr}
 use Rattle.lane.specs.Whole.{GatheredView}
@@ -16,38 +16,38 @@ use Rattle.refusals.specs.declared.refusal.Refusal.TheVariants.{Settings, NoThre
 use Rattle.refusals.specs.declared.settings_fault.SettingsFault.{SettingsFault}
 
 -- the rules accept the zone files, every row of every file passed the lane, and each sink holds its file of their instance
-pub record IsDone (plan : PlanParts) (lefts : List (Option (List ℕ))) (valuers capacity : ℕ)
+pub record IsDone (plan : PlanParts) (remainders : List (Option (List ℕ))) (valuers capacity : ℕ)
     (old new : TextName → SinkState) (g : GatheredView) : Type 0 where
   pub texts : List (List ℕ)
-  pub given : AreGiven lefts texts
+  pub given : AreGiven remainders texts
   pub accepted : IsAccepted plan texts
   pub passed : HasPassed plan texts valuers capacity g
   pub written : AreWritten (instance_from plan texts) old new
 
 -- the rules accept the zone files, and writing stopped at this sink, which refused `more` calls
-pub record IsStopped (plan : PlanParts) (lefts : List (Option (List ℕ))) (which : TextName)
+pub record IsStopped (plan : PlanParts) (remainders : List (Option (List ℕ))) (which : TextName)
     (more : ℕ) (old new : TextName → SinkState) : Type 0 where
   pub texts : List (List ℕ)
-  pub given : AreGiven lefts texts
+  pub given : AreGiven remainders texts
   pub accepted : IsAccepted plan texts
   pub cut : AreCutOffAt which more (instance_from plan texts) old new
 
 -- what holds after each error: why the run returned it, and the states of the sinks
 abbrev pub IsRefused : PlanParts → List (Option (List ℕ)) → (ℕ → Type 0)
     → (TextName → SinkState) → (TextName → SinkState) → Refusal → Type 0
-IsRefused plan lefts Failed old new (Settings kind) = new ≡ old
-IsRefused plan lefts Failed old new NoThread = new ≡ old
-IsRefused plan lefts Failed old new (FeedFailed file) = IsFeedFault plan lefts Failed file × (new ≡ old)
-IsRefused plan lefts Failed old new (SinkFailed which) = IsStopped plan lefts which 1 old new
-IsRefused plan lefts Failed old new OutOfMemory =
-    (new ≡ old) ⊎ ((which : TextName) × IsStopped plan lefts which 0 old new)
-IsRefused plan lefts Failed old new verdict = IsVerdict plan lefts verdict × (new ≡ old)
+IsRefused plan remainders Failed old new (Settings kind) = new ≡ old
+IsRefused plan remainders Failed old new NoThread = new ≡ old
+IsRefused plan remainders Failed old new (FeedFailed file) = IsFeedFault plan remainders Failed file × (new ≡ old)
+IsRefused plan remainders Failed old new (SinkFailed which) = IsStopped plan remainders which 1 old new
+IsRefused plan remainders Failed old new OutOfMemory =
+    (new ≡ old) ⊎ ((which : TextName) × IsStopped plan remainders which 0 old new)
+IsRefused plan remainders Failed old new verdict = IsVerdict plan remainders verdict × (new ≡ old)
 
 -- what a run returns and does to its sinks, for a plan, the formulas of its destinations, its settings, and the number of threads that it
 -- may start
-pub record Runs (plan : PlanParts) (formulas : List Formula) (chosen : Chosen) (lefts : List (Option (List ℕ))) (Failed : ℕ → Type 0)
+pub record Runs (plan : PlanParts) (formulas : List Formula) (chosen : Chosen) (remainders : List (Option (List ℕ))) (Failed : ℕ → Type 0)
     (starts : ℕ) (old new : TextName → SinkState) (answer : Result GatheredView Refusal) : Type 0 where
-  pub settings : (kind : SettingsFault) → (answer ≡ Err (Settings kind)) ↔ IsSettingsFault plan (length lefts) formulas chosen kind
-  pub done : IfOk answer (IsDone plan lefts chosen.valuers chosen.capacity old new)
-  pub refused : IfErr answer (IsRefused plan lefts Failed old new)
-  pub budget : IfOk answer (λ _. chosen.valuers + length lefts ≤ starts)
+  pub settings : (kind : SettingsFault) → (answer ≡ Err (Settings kind)) ↔ IsSettingsFault plan (length remainders) formulas chosen kind
+  pub done : IfOk answer (IsDone plan remainders chosen.valuers chosen.capacity old new)
+  pub refused : IfErr answer (IsRefused plan remainders Failed old new)
+  pub budget : IfOk answer (λ _. chosen.valuers + length remainders ≤ starts)

@@ -17,8 +17,8 @@ sink_of sinks text.Pcpsp = sinks.pcpsp
 sink_of sinks text.Cpit = sinks.cpit
 
 -- the state of the sink of each file
-abbrev pub all_told : {S : Type 0} → (S → SinkState) → Sinks S → TextName → SinkState
-all_told state sinks name = state (sink_of sinks name)
+abbrev pub sink_states : {S : Type 0} → (S → SinkState) → Sinks S → TextName → SinkState
+sink_states state sinks name = state (sink_of sinks name)
 
 -- each sink holds its file
 abbrev pub AreWritten : Instance → (TextName → SinkState) → (TextName → SinkState) → Type 0
@@ -28,8 +28,8 @@ AreWritten i old new = (name : TextName) → IsWritten (text_named name i) (old 
 pub record AreCutOffAt (which : TextName) (more : ℕ) (i : Instance)
     (old new : TextName → SinkState) : Type 0 where
   pub before : List TextName
-  pub behind : List TextName
-  pub order : all_texts ≡ before ++ which ∷ behind
+  pub following : List TextName
+  pub order : all_texts ≡ before ++ which ∷ following
   pub written : All (λ name. IsWritten (text_named name i) (old name) (new name)) before
   pub cut : IsCutOff more (text_named which i) (old which) (new which)
-  pub still : All (λ name. new name ≡ old name) behind
+  pub still : All (λ name. new name ≡ old name) following

@@ -12,7 +12,7 @@ use Rattle.refusals.specs.declared.refusal.Refusal.{Refusal}
 -- these are the texts of the zone files: each is the bytes that its feed had left, if the feed reports them. A file of the system reports
 -- none, so its text is any text
 abbrev pub AreGiven : List (Option (List ℕ)) → List (List ℕ) → Type 0
-AreGiven lefts texts = AllZip (λ left text. IfSome left (λ bytes. text ≡ bytes)) lefts texts
+AreGiven remainders texts = AllZip (λ remaining text. IfSome remaining (λ bytes. text ≡ bytes)) remainders texts
 
 -- the instance of a plan and these zone files
 abbrev pub instance_from : PlanParts → List (List ℕ) → Instance
@@ -26,14 +26,14 @@ pub record HasPassed (plan : PlanParts) (texts : List (List ℕ)) (valuers capac
   pub whole : IsWhole g
 
 -- the verdict on the zone files is this error
-pub record IsVerdict (plan : PlanParts) (lefts : List (Option (List ℕ))) (refusal : Refusal) : Type 0 where
+pub record IsVerdict (plan : PlanParts) (remainders : List (Option (List ℕ))) (refusal : Refusal) : Type 0 where
   pub texts : List (List ℕ)
-  pub given : AreGiven lefts texts
+  pub given : AreGiven remainders texts
   pub refused : IsRefusedBy plan texts refusal
 
 -- the feed of this file failed, and no file before it has a fault
-pub record IsFeedFault (plan : PlanParts) (lefts : List (Option (List ℕ))) (Failed : ℕ → Type 0) (file : ℕ) : Type 0 where
+pub record IsFeedFault (plan : PlanParts) (remainders : List (Option (List ℕ))) (Failed : ℕ → Type 0) (file : ℕ) : Type 0 where
   pub texts : List (List ℕ)
-  pub given : AreGiven lefts texts
+  pub given : AreGiven remainders texts
   pub none_before : fault_in (take file texts) plan.grid 0 ≡ None
   pub failed : Failed file

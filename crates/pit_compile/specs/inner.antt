@@ -1,4 +1,4 @@
-pub mod Behind
+pub mod AfterStart
 pub mod ModelRows
 pub mod ReadAnswers
 pub mod Repeats

@@ -1,11 +1,12 @@
 //! The first half of a run: from zone files to the instance.
 
-ghost use Rattle.std.specs.Prelude.{◌≡◌, ◌+◌, Err, length, map, IfErr, IfOk, IfSome};
+ghost use Rattle.std.specs.Prelude.{◌≡◌, ◌+◌, Err, length, IfErr, IfOk, IfSome};
+ghost use Rattle.devices.specs.feeds.FeedState.{all_remaining};
 ghost use Rattle.mine_instance.specs.Valid.{IsValid};
 ghost use Rattle.pit_compile.specs.Compiling.{Compiles, IsCompiled, IsNotCompiled};
 ghost use Rattle.pit_compile.specs.Starts.{refused_start, SpendsStarts};
 ghost use Rattle.pit_compile.specs.Suits.{Suits};
-ghost use Rattle.pit_compile.specs.inner.Behind.{IsBehindThreads};
+ghost use Rattle.pit_compile.specs.inner.AfterStart.{IsAfterStart};
 ghost use Rattle.pit_compile.specs.inner.ReadAnswers.{refusal_in};
 ghost use Rattle.plan_parts.specs.Destinations.{formulas_of};
 ghost use Rattle.plan_parts.specs.PlanFormulas.{formulas_of_plan};
@@ -20,7 +21,7 @@ use crate::settings::{Budget, Settings, require_settings};
 use devices::feeds::feed::Feed;
 use lane::Gathered;
 use mine_instance::instance::Instance;
-use mine_instance::{FoundCoefs, FoundValues};
+use mine_instance::{LazyCoefs, LazyValues};
 use pit_units::OrMemory;
 use plan_parts::formulas::destination::Destination;
 use plan_parts::plan::Plan;
@@ -39,7 +40,7 @@ pub struct Compiled {
     /// The messages that passed the lane.
     pub gathered: Gathered,
     /// The instance of the model. Its predecessors, coefficients and values are computed lazily.
-    pub instance: Instance<FoundPreds, FoundCoefs, FoundValues>,
+    pub instance: Instance<FoundPreds, LazyCoefs, LazyValues>,
 }
 
 /// Reads and values the zone files on threads, and builds the instance of the plan and these files. Starts no more threads
@@ -65,8 +66,8 @@ pub fn compile<R: Threads + Wait + Sync, F: Feed + Send + Drop, G: Gate + Sync>(
     budget: Budget,
     gate: &G,
 ) -> Result<Compiled, Refusal>
-    ensures { Compiles F.left F.is_sure F.failures plan.now (formulas_of destinations.now)
-        budget.settings feeds.items budget.starts result }
+    ensures { Compiles F.state plan.now (formulas_of destinations.now) budget.settings
+        feeds.items budget.starts result }
 {
     let Budget { settings, starts } = budget;
     let mut starts = Starts::with_gate(rt, starts, gate);
@@ -84,8 +85,8 @@ pub fn compile_with_starts<R: Threads + Wait + Sync, F: Feed + Send + Drop, G: G
     starts: &mut Starts<'_, R, G>,
 ) -> Result<Compiled, Refusal>
     requires unspent { starts.old ≡ none_spent starts.old.allowed }
-    ensures compiles { Compiles F.left F.is_sure F.failures plan.now (formulas_of destinations.now)
-        settings feeds.items starts.old.allowed result }
+    ensures compiles { Compiles F.state plan.now (formulas_of destinations.now) settings
+        feeds.items starts.old.allowed result }
 
     // What was started.
     ensures spends { SpendsStarts (settings.valuers + length feeds.items) starts.old starts.new
@@ -123,17 +124,17 @@ fn compiled_of<F: Feed>(
     _given: GivenFeeds<F>,
 ) -> Result<Compiled, Refusal>
     requires fit { Suits plan.now (length _given) (formulas_of_plan plan.now) _settings }
-    requires handed { IsHandedOver F.left F.is_sure F.failures plan.now _given
-        _settings.valuers _settings.capacity handed _given }
-    ensures done { IfOk result (IsCompiled plan.now (map F.left _given)
+    requires handed { IsHandedOver F.state plan.now _given _settings.valuers _settings.capacity
+        handed _given }
+    ensures done { IfOk result (IsCompiled plan.now (all_remaining F.state _given)
         _settings.valuers _settings.capacity) }
     ensures valid { IfOk result (λ made. IsValid made.instance) }
 
     // An error never concerns the settings or a thread start; if a reader did not finish, it is that reader's error.
-    ensures behind { IfErr result IsBehindThreads }
+    ensures following { IfErr result IsAfterStart }
     ensures files { IfSome (refusal_in 0 handed.answers.items) (λ refusal. result ≡ Err refusal) }
-    ensures refused { IfErr result (IsNotCompiled plan.now (map F.left _given)
-        (HasFailed F.is_sure F.failures _given)) }
+    ensures refused { IfErr result (IsNotCompiled plan.now (all_remaining F.state _given)
+        (HasFailed F.state _given)) }
 {
     zone_files();
     let HandedOver {

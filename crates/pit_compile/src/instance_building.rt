@@ -10,7 +10,7 @@ ghost use Rattle.pit_compile.specs.Verdict.{AreApart};
 
 use crate::numbered::numbered;
 use mine_instance::instance::Instance;
-use mine_instance::{FoundCoefs, FoundValues, build_with};
+use mine_instance::{LazyCoefs, LazyValues, build_with};
 use plan_parts::plan::Plan;
 use precedence::FoundPreds;
 use refusals::refusal::Refusal;
@@ -28,7 +28,7 @@ pub fn instance_of_rows(
     alloc: Global,
     rows: RowLists,
     plan: &Plan,
-) -> Result<Instance<FoundPreds, FoundCoefs, FoundValues>, Refusal>
+) -> Result<Instance<FoundPreds, LazyCoefs, LazyValues>, Refusal>
     requires { AreModelRows plan.now rows }
     ensures apart { IfOk result (λ _. AreApart (blocks_of_rows rows)) }
     ensures value { IfOk result (λ built. built ≡ instance plan.now (blocks_of_rows rows)) }
@@ -39,6 +39,6 @@ pub fn instance_of_rows(
     let worths = rows.into_worths(alloc)?;
     let preds = FoundPreds::new(alloc, &numbering, plan)?;
     let (blocks, positions) = numbering.into_parts();
-    let values = FoundValues::new(worths, positions);
+    let values = LazyValues::new(worths, positions);
     Ok(build_with(alloc, blocks, preds, values, plan)?)
 }

@@ -1,8 +1,9 @@
 //! The run: from zone files to the files of the instance.
 
-ghost use Rattle.std.specs.Prelude.{◌≡◌, ◌+◌, length, map};
+ghost use Rattle.std.specs.Prelude.{◌≡◌, ◌+◌, length};
+ghost use Rattle.devices.specs.feeds.FeedState.{all_remaining};
 ghost use Rattle.pit_compile.specs.Run.{Runs};
-ghost use Rattle.pit_compile.specs.Sinks.{all_told};
+ghost use Rattle.pit_compile.specs.Sinks.{sink_states};
 ghost use Rattle.pit_compile.specs.Starts.{SpendsStarts};
 ghost use Rattle.pit_compile.specs.declared.running.TheConstants.{MOST_STARTS};
 ghost use Rattle.plan_parts.specs.Destinations.{formulas_of};
@@ -50,9 +51,9 @@ pub fn run<R: Threads + Wait + Sync, F: Feed + Send + Drop, G: Gate + Sync, S: S
     gate: &G,
     sinks: &mut Sinks<S>,
 ) -> Result<Gathered, Refusal>
-    ensures { let told = all_told S.state in
-        Runs plan.now (formulas_of destinations.now) settings (map F.left feeds.items)
-        (HasFailed F.is_sure F.failures feeds.items) MOST_STARTS (told sinks.old) (told sinks.new) result }
+    ensures { let states = sink_states S.state in
+        Runs plan.now (formulas_of destinations.now) settings (all_remaining F.state feeds.items)
+        (HasFailed F.state feeds.items) MOST_STARTS (states sinks.old) (states sinks.new) result }
 {
     run_limited(
         rt,
@@ -79,9 +80,9 @@ pub fn run_limited<R: Threads + Wait + Sync, F: Feed + Send + Drop, G: Gate + Sy
     gate: &G,
     sinks: &mut Sinks<S>,
 ) -> Result<Gathered, Refusal>
-    ensures { let told = all_told S.state in
-        Runs plan.now (formulas_of destinations.now) settings (map F.left feeds.items)
-        (HasFailed F.is_sure F.failures feeds.items) starts (told sinks.old) (told sinks.new) result }
+    ensures { let states = sink_states S.state in
+        Runs plan.now (formulas_of destinations.now) settings (all_remaining F.state feeds.items)
+        (HasFailed F.state feeds.items) starts (states sinks.old) (states sinks.new) result }
 {
     let mut starts = Starts::with_gate(rt, starts, gate);
     run_with_starts(
@@ -107,10 +108,10 @@ pub fn run_with_starts<R: Threads + Wait + Sync, F: Feed + Send + Drop, G: Gate 
     sinks: &mut Sinks<S>,
 ) -> Result<Gathered, Refusal>
     requires unspent { starts.old ≡ none_spent starts.old.allowed }
-    ensures runs { let told = all_told S.state in
-        Runs plan.now (formulas_of destinations.now) settings (map F.left feeds.items)
-        (HasFailed F.is_sure F.failures feeds.items) starts.old.allowed (told sinks.old)
-        (told sinks.new) result }
+    ensures runs { let states = sink_states S.state in
+        Runs plan.now (formulas_of destinations.now) settings (all_remaining F.state feeds.items)
+        (HasFailed F.state feeds.items) starts.old.allowed (states sinks.old)
+        (states sinks.new) result }
 
     // What was started.
     ensures spends { SpendsStarts (settings.valuers + length feeds.items) starts.old starts.new

@@ -25,7 +25,7 @@ pub struct Budget {
 }
 
 /// Fails with the first fault of the settings, in the order of `SettingsFault`, for `files` zone files.
-#[tactic(auto, using(crate::proofs::SettingsFacts::told_exactly))]
+#[tactic(auto, using(crate::proofs::SettingsFacts::reported_exactly))]
 pub fn require_settings(
     files: usize,
     plan: &Plan,

@@ -4,7 +4,7 @@ ghost use Rattle.std.specs.Prelude.{◌≡◌, IfErr, OnOk};
 ghost use Rattle.mine_instance.specs.Valid.{IsValid};
 ghost use Rattle.pit_compile.specs.SinkAnswers.{AreCutOff};
 ghost use Rattle.pit_compile.specs.inner.SinkWriting.{in_sink};
-ghost use Rattle.pit_compile.specs.Sinks.{all_told, AreWritten};
+ghost use Rattle.pit_compile.specs.Sinks.{sink_states, AreWritten};
 
 use crate::sinks::Sinks;
 use devices::sinks::sink::Sink;
@@ -34,10 +34,10 @@ pub fn write_texts<P: PredLists, C: CoefList, V: ValueList, S: Sink>(
     sinks: &mut Sinks<S>,
 ) -> Result<(), Refusal>
     requires { IsValid instance.now }
-    ensures written { let told = all_told S.state in
-        OnOk result (AreWritten instance.now (told sinks.old) (told sinks.new)) }
-    ensures refused { let told = all_told S.state in
-        IfErr result (AreCutOff instance.now (told sinks.old) (told sinks.new)) }
+    ensures written { let states = sink_states S.state in
+        OnOk result (AreWritten instance.now (states sinks.old) (states sinks.new)) }
+    ensures refused { let states = sink_states S.state in
+        IfErr result (AreCutOff instance.now (states sinks.old) (states sinks.new)) }
 {
     for name in TextName::all() {
         in_sink(name, write_named(alloc, name, instance, sinks.of_mut(name)))?;

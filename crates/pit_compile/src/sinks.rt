@@ -3,7 +3,7 @@
 ghost use Rattle.std.specs.Borrow.{sem};
 ghost use Rattle.std.specs.Prelude.{◌≡◌, IfOk, Ok};
 ghost use Rattle.minelib_lines.specs.declared.text_name.TextName.{TextName as AName};
-ghost use Rattle.pit_compile.specs.SinkLent.{LendsSink};
+ghost use Rattle.pit_compile.specs.SinkBorrowed.{BorrowsSink};
 ghost use Rattle.pit_compile.specs.Sinks.{sink_of};
 
 use minelib_lines::text_name::TextName;
@@ -38,7 +38,7 @@ impl<S> Sinks<S> {
 
     /// Returns a mutable reference to the sink of this file.
     pub fn of_mut(&mut self, name: TextName) -> &mut S
-        ensures* writes_back { sem 𝓛 (LendsSink S.row self.entry name result) }
+        ensures* writes_back { sem 𝓛 (BorrowsSink S.row self.entry name result) }
         ensures value { result.now ≡ sink_of self.old name }
     {
         match name {

@@ -1,4 +1,4 @@
--- A cell is the key whose word it is, and no other.
+-- A cell is the key with its word, and no other key.
 use Rattle.std.specs.Prelude.{◌≡◌, ℕ, Bool, true, false, List, Option, Some, None, codes, if◌then◌else◌}
 use Rattle.std.proofs.Common.{refl, sym, ◌∙◌, subst}
 use Rattle.std.specs.Option.{option_map}
@@ -11,7 +11,7 @@ use Rattle.pit_model.specs.declared.draft.formulas.FormulaKey.TheVariants.{Mill,
 use Rattle.pit_model.specs.declared.plan_key.PlanKey.{PlanKey}
 use Rattle.pit_model.specs.declared.plan_key.PlanKey.TheVariants as key
 
--- the first of several whose test passes
+-- the first option whose test passes
 first_or : {K : Type 0} (P : K → Type 0) (t : Bool) (k : K) (others : Option K) → (t ≡ true → P k) → ((j : K) → others ≡ Some j → P j)
     → (j : K) → (if t then Some k else others) ≡ Some j → P j
 first_or P true k others here later j e = let same : k ≡ j = cc in subst P same (here refl)

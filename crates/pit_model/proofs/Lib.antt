@@ -1,10 +1,10 @@
 pub mod BandSteps
 pub mod CellFacts
+pub mod FailsExactly
 pub mod KeyFacts
 pub mod Limits
 pub mod PartFaults
 pub mod PartsAdded
-pub mod PlanKept
+pub mod PlanInvariant
 pub mod PlanLaws
 pub mod PlanSteps
-pub mod Says

@@ -1,4 +1,4 @@
--- One limit more, in its place, keeps what a list of limits keeps.
+-- Inserting a limit in order keeps the properties of a list of limits.
 use Rattle.std.proofs.Common.{◌≡◌, ◌≤◌, List, [], ◌∷◌, Bool, true, false, not, suc, arith, refl, ap, subst, length, nat_lt, All, unwrap_or}
 use Rattle.std.specs.Prelude.{IsTrue}
 use Rattle.std.specs.List.{list_any, insert, position, position_or_len}
@@ -10,7 +10,7 @@ use Rattle.std.proofs.lemmas.List.Sorted.{All-permutation, IsPermutation-insert}
 use Rattle.std.specs.List.Sorted.{IsPermutation}
 use Rattle.std.proofs.lemmas.List.Sums.{prefix_len-le-length}
 use Rattle.std.proofs.lemmas.Bool.{or_parts}
-use Rattle.plan_parts.specs.PlanKept.{stands_before, RiseStrictly}
+use Rattle.plan_parts.specs.PlanInvariant.{stands_before, RiseStrictly}
 use Rattle.pit_model.specs.Stated.{with_limit, is_same_place}
 use Rattle.plan_parts.specs.declared.limit.Limit.{Limit}
 
@@ -24,7 +24,7 @@ placed p xs = by_test (nat_lt (position_or_len p xs) (length xs)) refl
         let same : length xs ≡ position_or_len p xs = omega (arith, prefix_len-le-length (λ x. not (p x)) xs) in
         rw e same
 
--- inserting before the first that it stands before is putting it in order
+-- inserting a limit before the first one that it must precede is `with_limit`
 pub inserted : (l : Limit) (ms : List Limit) → insert ms (position_or_len (λ m. stands_before l m) ms) l ≡ with_limit l ms
 inserted l [] = refl
 inserted l (m ∷ ms) = by_test (inserted l ms) (stands_before l m) refl
@@ -40,7 +40,7 @@ trans a b c h k = grind (arith, nat_tests)
 after : (l m : Limit) → stands_before l m ≡ false → is_same_place l m ≡ false → stands_before m l ≡ true
 after l m h k = grind (arith, nat_tests)
 
--- no limit is lost, so what holds of it and of the others holds of all
+-- no limit is lost, so a property of the new and the old limits is a property of all
 pub with_limit_keeps : (l : Limit) (ms : List Limit) → IsPermutation (l ∷ ms) (with_limit l ms)
 with_limit_keeps l ms =
     subst (IsPermutation (l ∷ ms)) (inserted l ms) (IsPermutation-insert ms (position_or_len (λ m. stands_before l m) ms) l)
@@ -51,7 +51,7 @@ All-with_limit P l ms here all = All-permutation P (l ∷ ms) (with_limit l ms) 
 abbrev before : Limit → Limit → Type 0
 before l m = IsTrue (stands_before l m)
 
--- of limits that rise, the first stands before those behind it, which rise
+-- of limits that rise, the first precedes all others, and they rise
 pub first_rises : (l : Limit) (ls : List Limit) → RiseStrictly (l ∷ ls) → All (λ m. stands_before l m ≡ true) ls
 first_rises l ls up k d within = up 0 (suc k) d (omega arith) (omega arith)
 

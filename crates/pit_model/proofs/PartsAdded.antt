@@ -1,4 +1,4 @@
--- A record states something exactly where its cells spell the part that it adds.
+-- A record states something if and only if its cells encode the part that it adds.
 use Rattle.std.specs.Prelude.{◌≡◌, ◌≢◌, ◌⊎◌, ◌↔◌, ℕ, ◌*◌, ◌^◌, ◌%◌, ◌≤◌, drop, ◌==◌, ◌||◌, nat_le, nat_lt, not, Bool, true, false, List, [], ◌∷◌, length, ℤ, pos, negsuc, unsigned_abs, unwrap_or, codes, if◌then◌else◌, Option, Some, None, is_some, Result, Ok, Err}
 use Rattle.std.proofs.Common.{refl, sym, ◌∙◌, ap, subst, arith, inl, inr, eqb-true, leb-true, length-drop}
 use Rattle.std.proofs.lemmas.Bool.{eq-eqb, eqb-false, le-leb, le-ltb, ltb-false, ne_eqb, not-false, or_parts}
@@ -6,17 +6,17 @@ use Rattle.std.proofs.lemmas.Int.{ints}
 use Rattle.std.proofs.lemmas.Slice.Eq.{bytes_eq-Decides}
 use Rattle.std.specs.List.{list_any}
 use Rattle.pit_units.proofs.Exactly.{Exactly, as_, counted, done, each, tested, then_}
-use Rattle.pit_units.specs.SpelledNumbers.{SpellsBelow, SpellsNumber, SpellsWhole}
+use Rattle.pit_units.specs.EncodedNumbers.{EncodesBelow, EncodesInteger, EncodesNumber}
 use Rattle.pit_units.specs.Steps.{◌>>=◌, each_of}
 use Rattle.records.specs.RecordCells.{cell_at}
-use Rattle.plan_parts.specs.formulas.BandsKept.{starts_rise}
-use Rattle.plan_parts.specs.PlanKept.{has_repeat, is_turned}
+use Rattle.plan_parts.specs.formulas.BandsInvariant.{starts_rise}
+use Rattle.plan_parts.specs.PlanInvariant.{has_repeat, is_turned}
 use Rattle.pit_model.proofs.CellFacts.{below, name, named, number, origin, size, tonnes, whole}
 use Rattle.pit_model.specs.AddedParts.{AddsPart}
 use Rattle.pit_model.specs.DestinationRecords.{band_in, bands_in, destination_record, fresh_destination, rising}
 use Rattle.pit_model.specs.PlanRecords.{bound_in, covers_in, equal_zone, grid_by, grid_record, is_letter, key_record, limit_record, name_record, periods_record, rate_record, resource_record, sided_zone, slope_in, zone_record}
-use Rattle.pit_model.specs.SpelledCells.{IsNameOf, SpellsOrigin, SpellsSize, SpellsTonnes}
-use Rattle.pit_model.specs.SpelledParts.{NameDestinations, SpellBands, SpellsBand, SpellsBound, SpellsFormula, SpellsSlope}
+use Rattle.pit_model.specs.EncodedCells.{EncodesOrigin, EncodesSize, EncodesTonnes, IsNameOf}
+use Rattle.pit_model.specs.EncodedParts.{EncodeBands, EncodesBand, EncodesBound, EncodesFormula, EncodesSlope, NameDestinations}
 use Rattle.pit_model.specs.Stated.{Stated, destination_named, is_same_place, resource_named, with_destination, with_limit, with_resource, with_zone}
 use Rattle.pit_model.specs.StatedCells.{number_of, tonnes_in}
 use Rattle.pit_model.specs.declared.draft.formulas.FormulaKey.TheVariants as formula_key
@@ -37,7 +37,7 @@ pub none_of : {A : Type 0} (o : Option A) → is_some o ≡ false → o ≡ None
 none_of None e = refl
 none_of (Some x) e = absurd cc
 
--- a part of which none stands yet, and room for one more
+-- a part that is not stated yet, and fewer parts than the maximum
 once : {A F X : Type 0} {r : Result A F} {P : A → Type 0} (o : Option X) (fault : F) → Exactly r P
     → Exactly (if is_some o then Err fault else r) (λ y. (o ≡ None) × P y)
 once o fault all = tested fault (none_of o) (λ e. ap is_some e) all
@@ -46,98 +46,98 @@ room : {A F : Type 0} {r : Result A F} {P : A → Type 0} (n m : ℕ) (fault : F
     → Exactly (if n == m then Err fault else r) (λ y. (n ≢ m) × P y)
 room n m fault all = tested fault (eqb-false n m) (ne_eqb n m) all
 
--- what is behind a test, where the test passes
-behind : {A F : Type 0} {r : Result A F} {P : A → Type 0} {t : Bool} {T : Type 0} (fault : F) → (t ≡ false → T) → (T → t ≡ false)
+-- a result after a test that passes
+following : {A F : Type 0} {r : Result A F} {P : A → Type 0} {t : Bool} {T : Type 0} (fault : F) → (t ≡ false → T) → (T → t ≡ false)
     → (T → Exactly r P) → Exactly (if t then Err fault else r) (λ y. T × P y)
-behind {A} {F} {r} {P} {t} {T} fault to from all = record {
-  told = λ y e. told t refl y e;
+following {A} {F} {r} {P} {t} {T} fault to from all = record {
+  reported = λ y e. reported t refl y e;
   back = λ y h. rw (from h.0) ((all h.0).back y h.1);
 }
   where
-    told : (b : Bool) → t ≡ b → (y : A) → (if b then Err fault else r) ≡ Ok y → T × P y
-    told true is y e = absurd cc
-    told false is y e = let here = to is in (here, (all here).told y e)
+    reported : (b : Bool) → t ≡ b → (y : A) → (if b then Err fault else r) ≡ Ok y → T × P y
+    reported true is y e = absurd cc
+    reported false is y e = let here = to is in (here, (all here).reported y e)
 
--- one of two, by a test
+-- one of two results, by a test
 chosen : {A F : Type 0} {r q : Result A F} {P Q : A → Type 0} (t : Bool) → Exactly r P → Exactly q Q
     → Exactly (if t then r else q) (λ y. ((t ≡ true) × P y) ⊎ ((t ≡ false) × Q y))
-chosen {A} {F} {r} {q} {P} {Q} t one other = record { told = λ y e. told t refl y e; back = back }
+chosen {A} {F} {r} {q} {P} {Q} t one other = record { reported = λ y e. reported t refl y e; back = back }
   where
-    told : (b : Bool) → t ≡ b → (y : A) → (if b then r else q) ≡ Ok y → ((t ≡ true) × P y) ⊎ ((t ≡ false) × Q y)
-    told true is y e = inl (is, one.told y e)
-    told false is y e = inr (is, other.told y e)
+    reported : (b : Bool) → t ≡ b → (y : A) → (if b then r else q) ≡ Ok y → ((t ≡ true) × P y) ⊎ ((t ≡ false) × Q y)
+    reported true is y e = inl (is, one.reported y e)
+    reported false is y e = inr (is, other.reported y e)
 
     back : (y : A) → ((t ≡ true) × P y) ⊎ ((t ≡ false) × Q y) → (if t then r else q) ≡ Ok y
     back y (inl h) = rw h.0 (one.back y h.1)
     back y (inr h) = rw h.0 (other.back y h.1)
 
 nothing : {A F : Type 0} (fault : F) → Exactly {A = A} (Err fault) (λ y. ⊥)
-nothing fault = record { told = λ y e. absurd cc; back = λ y h. absurd h }
+nothing fault = record { reported = λ y e. absurd cc; back = λ y h. absurd h }
 
--- parts of several cells
-pub slope : (rise run : List ℕ) → Exactly (slope_in rise run) (SpellsSlope rise run)
+-- parts that several cells state
+pub slope : (rise run : List ℕ) → Exactly (slope_in rise run) (EncodesSlope rise run)
 slope rise run = as_ steps to from
   where
     Steps : Slope → Type 0
-    Steps s = (p : ℕ) × SpellsWhole 1 1000 rise p × ((q : ℕ) × SpellsWhole 1 1000 run q × (s ≡ record { p = p; q = q }))
+    Steps s = (p : ℕ) × EncodesInteger 1 1000 rise p × ((q : ℕ) × EncodesInteger 1 1000 run q × (s ≡ record { p = p; q = q }))
 
     steps : Exactly (slope_in rise run) Steps
     steps = then_ (whole 1 1000 rise) (λ p. then_ (whole 1 1000 run) (λ q. done (record { p = p; q = q })))
 
-    to : (s : Slope) → Steps s → SpellsSlope rise run s
-    to s (p, of_p, (q, of_q, is)) = subst (SpellsSlope rise run) (sym is) (of_p, of_q)
+    to : (s : Slope) → Steps s → EncodesSlope rise run s
+    to s (p, of_p, (q, of_q, is)) = subst (EncodesSlope rise run) (sym is) (of_p, of_q)
 
-    from : (s : Slope) → SpellsSlope rise run s → Steps s
+    from : (s : Slope) → EncodesSlope rise run s → Steps s
     from s h = (s.p, h.0, (s.q, h.1, refl))
 
-pub band : (start recovery : List ℕ) → Exactly (band_in start recovery) (SpellsBand start recovery)
+pub band : (start recovery : List ℕ) → Exactly (band_in start recovery) (EncodesBand start recovery)
 band start recovery = as_ steps to from
   where
     Steps : Band → Type 0
     Steps b =
-        (m : ℤ) × SpellsNumber 6 (pos 0) (pos (10 ^ 12)) start m
-        × ((part : ℕ) × SpellsWhole 0 1000 recovery part × (b ≡ record { start = unsigned_abs m; recovery = part }))
+        (m : ℤ) × EncodesNumber 6 (pos 0) (pos (10 ^ 12)) start m
+        × ((part : ℕ) × EncodesInteger 0 1000 recovery part × (b ≡ record { start = unsigned_abs m; recovery = part }))
 
     steps : Exactly (band_in start recovery) Steps
     steps =
         then_ (number 6 (pos 0) (pos (10 ^ 12)) start (omega arith)) (λ m. then_ (whole 0 1000 recovery) (λ part.
         done (record { start = unsigned_abs m; recovery = part })))
 
-    to : (b : Band) → Steps b → SpellsBand start recovery b
-    to b (pos n, of_m, (part, of_part, is)) = subst (SpellsBand start recovery) (sym is) (of_m, of_part)
+    to : (b : Band) → Steps b → EncodesBand start recovery b
+    to b (pos n, of_m, (part, of_part, is)) = subst (EncodesBand start recovery) (sym is) (of_m, of_part)
     to b (negsuc n, of_m, rest) = absurd (omega (arith, ints, of_m.1))
 
-    from : (b : Band) → SpellsBand start recovery b → Steps b
+    from : (b : Band) → EncodesBand start recovery b → Steps b
     from b h = (pos b.start, h.0, (b.recovery, h.1, refl))
 
-pub bands : (cells : List (List ℕ)) → length cells % 2 ≡ 0 → Exactly (bands_in cells) (SpellBands cells)
-bands [] even = record { told = none; back = some }
+pub bands : (cells : List (List ℕ)) → length cells % 2 ≡ 0 → Exactly (bands_in cells) (EncodeBands cells)
+bands [] even = record { reported = none; back = some }
   where
-    none : (all : List Band) → ◌≡◌ {A = Result (List Band) PlanFaultKind} (Ok []) (Ok all) → SpellBands [] all
+    none : (all : List Band) → ◌≡◌ {A = Result (List Band) PlanFaultKind} (Ok []) (Ok all) → EncodeBands [] all
     none [] e = tt
     none (b ∷ all) e = absurd cc
 
-    some : (all : List Band) → SpellBands [] all → ◌≡◌ {A = Result (List Band) PlanFaultKind} (Ok []) (Ok all)
+    some : (all : List Band) → EncodeBands [] all → ◌≡◌ {A = Result (List Band) PlanFaultKind} (Ok []) (Ok all)
     some [] h = refl
     some (b ∷ all) h = absurd h
 bands (lone ∷ []) even = absurd (omega (arith, even))
 bands (start ∷ recovery ∷ cells) even = as_ (steps (bands cells (omega (arith, even)))) to from
   where
     Steps : List Band → Type 0
-    Steps all = (b : Band) × SpellsBand start recovery b × ((rest : List Band) × SpellBands cells rest × (all ≡ b ∷ rest))
+    Steps all = (b : Band) × EncodesBand start recovery b × ((rest : List Band) × EncodeBands cells rest × (all ≡ b ∷ rest))
 
-    steps : Exactly (bands_in cells) (SpellBands cells) → Exactly (bands_in (start ∷ recovery ∷ cells)) Steps
+    steps : Exactly (bands_in cells) (EncodeBands cells) → Exactly (bands_in (start ∷ recovery ∷ cells)) Steps
     steps rest = then_ (band start recovery) (λ b. then_ rest (λ all. done (b ∷ all)))
 
-    to : (all : List Band) → Steps all → SpellBands (start ∷ recovery ∷ cells) all
-    to all (b, h, (rest, more, is)) = subst (SpellBands (start ∷ recovery ∷ cells)) (sym is) (h, more)
+    to : (all : List Band) → Steps all → EncodeBands (start ∷ recovery ∷ cells) all
+    to all (b, h, (rest, more, is)) = subst (EncodeBands (start ∷ recovery ∷ cells)) (sym is) (h, more)
 
-    from : (all : List Band) → SpellBands (start ∷ recovery ∷ cells) all → Steps all
+    from : (all : List Band) → EncodeBands (start ∷ recovery ∷ cells) all → Steps all
     from [] h = absurd h
     from (b ∷ rest) h = (b, h.0, (rest, h.1, refl))
 
--- two cells a band
-pub pairs : (cells : List (List ℕ)) (all : List Band) → SpellBands cells all → length cells ≡ 2 * length all
+-- each band has two cells
+pub pairs : (cells : List (List ℕ)) (all : List Band) → EncodeBands cells all → length cells ≡ 2 * length all
 pairs [] [] h = refl
 pairs (start ∷ recovery ∷ cells) (b ∷ all) h = let rest = pairs cells all h.1 in omega (arith, rest)
 pairs _ _ h = absurd h
@@ -199,8 +199,8 @@ module _ (s : Stated) (cells : List (List ℕ)) where
     where
       Steps : Stated → Type 0
       Steps next =
-          (length cells ≡ 7) × ((x : ℤ) × SpellsOrigin (c 1) x × ((y : ℤ) × SpellsOrigin (c 2) y × ((z : ℤ) × SpellsOrigin (c 3) z
-          × ((a : ℕ) × SpellsSize (c 4) a × ((b : ℕ) × SpellsSize (c 5) b × ((d : ℕ) × SpellsSize (c 6) d
+          (length cells ≡ 7) × ((x : ℤ) × EncodesOrigin (c 1) x × ((y : ℤ) × EncodesOrigin (c 2) y × ((z : ℤ) × EncodesOrigin (c 3) z
+          × ((a : ℕ) × EncodesSize (c 4) a × ((b : ℕ) × EncodesSize (c 5) b × ((d : ℕ) × EncodesSize (c 6) d
           × ((s.grid ≡ None) × (next ≡ record s { grid = Some (grid_by x y z a b d) }))))))))
 
       steps : Exactly (grid_record s cells) Steps
@@ -226,27 +226,27 @@ module _ (s : Stated) (cells : List (List ℕ)) where
       )
 
       from : (next : Stated) → AddsPart key.Grid s cells next → Steps next
-      from next (g, spells, none, is) = (
-        spells.seven,
+      from next (g, encodes, none, is) = (
+        encodes.seven,
         (
           g.x.origin,
-          spells.x,
+          encodes.x,
           (
             g.y.origin,
-            spells.y,
+            encodes.y,
             (
               g.z.origin,
-              spells.z,
-              (g.x.size, spells.along_x, (g.y.size, spells.along_y, (g.z.size, spells.along_z, (none, is)))),
+              encodes.z,
+              (g.x.size, encodes.along_x, (g.y.size, encodes.along_y, (g.z.size, encodes.along_z, (none, is)))),
             ),
           ),
         ),
       )
 
-  -- a zone of one slope, or of four
+  -- a zone with one slope, or with four
   abbrev Equal : Stated → Type 0
   Equal next =
-      (slope : Slope) × SpellsSlope (c 1) (c 2) slope × ((k : ℕ) × SpellsWhole 1 20 (c 3) k
+      (slope : Slope) × EncodesSlope (c 1) (c 2) slope × ((k : ℕ) × EncodesInteger 1 20 (c 3) k
       × ((length s.cones ≢ 64) × (next ≡ with_zone s (record { east = slope; west = slope; north = slope; south = slope; k = k }))))
 
   equal : Exactly (equal_zone s cells) Equal
@@ -256,9 +256,9 @@ module _ (s : Stated) (cells : List (List ℕ)) where
 
   abbrev Sided : Stated → Type 0
   Sided next =
-      (east : Slope) × SpellsSlope (c 1) (c 2) east × ((west : Slope) × SpellsSlope (c 3) (c 4) west
-      × ((north : Slope) × SpellsSlope (c 5) (c 6) north × ((south : Slope) × SpellsSlope (c 7) (c 8) south
-      × ((k : ℕ) × SpellsWhole 1 20 (c 9) k
+      (east : Slope) × EncodesSlope (c 1) (c 2) east × ((west : Slope) × EncodesSlope (c 3) (c 4) west
+      × ((north : Slope) × EncodesSlope (c 5) (c 6) north × ((south : Slope) × EncodesSlope (c 7) (c 8) south
+      × ((k : ℕ) × EncodesInteger 1 20 (c 9) k
       × ((length s.cones ≢ 64) × (next ≡ with_zone s (record { east = east; west = west; north = north; south = south; k = k })))))))
 
   sided : Exactly (sided_zone s cells) Sided
@@ -301,21 +301,21 @@ module _ (s : Stated) (cells : List (List ℕ)) where
       to next (inr (more, inr none)) = absurd none.1
 
       from : (next : Stated) → AddsPart key.Zone s cells next → Steps next
-      from next (cone, inl spells, free, is) =
+      from next (cone, inl encodes, free, is) =
           let all : cone ≡ record { east = cone.east; west = cone.east; north = cone.east; south = cone.east; k = cone.k } =
-          λ i. record { east = cone.east; west = spells.others.0 i; north = spells.others.1 i; south = spells.others.2 i; k = cone.k } in
-          inl (eq-eqb (length cells) 4 spells.four, (cone.east, spells.east, (cone.k, spells.k, (free, is ∙ ap (with_zone s) all))))
-      from next (cone, inr spells, free, is) =
-          let four : (length cells == 4) ≡ false = rw spells.ten refl in
+          λ i. record { east = cone.east; west = encodes.others.0 i; north = encodes.others.1 i; south = encodes.others.2 i; k = cone.k } in
+          inl (eq-eqb (length cells) 4 encodes.four, (cone.east, encodes.east, (cone.k, encodes.k, (free, is ∙ ap (with_zone s) all))))
+      from next (cone, inr encodes, free, is) =
+          let four : (length cells == 4) ≡ false = rw encodes.ten refl in
           inr (
             four,
             inl (
-              eq-eqb (length cells) 10 spells.ten,
-              (cone.east, spells.east, (cone.west, spells.west, (cone.north, spells.north, (cone.south, spells.south, (cone.k, spells.k, (free, is)))))),
+              eq-eqb (length cells) 10 encodes.ten,
+              (cone.east, encodes.east, (cone.west, encodes.west, (cone.north, encodes.north, (cone.south, encodes.south, (cone.k, encodes.k, (free, is)))))),
             ),
           )
 
-  -- a destination of a new NAME, where there is room
+  -- a destination with a new NAME, if there are fewer than the maximum
   abbrev Fresh : List ℕ → Formula → Stated → Type 0
   Fresh n formula next = (destination_named s.formulas n ≡ None) × ((length s.formulas ≢ 8) × (next ≡ with_destination s n formula))
 
@@ -328,8 +328,8 @@ module _ (s : Stated) (cells : List (List ℕ)) where
     where
       Steps : Stated → Type 0
       Steps next =
-          (length cells ≡ 5) × ((n : List ℕ) × IsNameOf (c 1) n × ((recovery : ℕ) × SpellsWhole 0 1000 (c 2) recovery
-          × ((price : ℕ) × SpellsWhole 0 (10 ^ 8) (c 3) price × ((cost : ℕ) × SpellsWhole 0 (10 ^ 7) (c 4) cost
+          (length cells ≡ 5) × ((n : List ℕ) × IsNameOf (c 1) n × ((recovery : ℕ) × EncodesInteger 0 1000 (c 2) recovery
+          × ((price : ℕ) × EncodesInteger 0 (10 ^ 8) (c 3) price × ((cost : ℕ) × EncodesInteger 0 (10 ^ 7) (c 4) cost
           × Fresh n (Mill recovery price cost) next))))
 
       steps : Exactly (destination_record formula_key.Mill s cells) Steps
@@ -341,18 +341,18 @@ module _ (s : Stated) (cells : List (List ℕ)) where
       to next (five, (n, of_n, (recovery, of_recovery, (price, of_price, (cost, of_cost, (new, (free, is))))))) =
           (n, Mill recovery price cost, of_n, (five, of_recovery, of_price, of_cost), new, free, is)
 
-      from : (next : Stated) (n : List ℕ) (formula : Formula) → IsNameOf (c 1) n → SpellsFormula formula_key.Mill cells formula
+      from : (next : Stated) (n : List ℕ) (formula : Formula) → IsNameOf (c 1) n → EncodesFormula formula_key.Mill cells formula
           → destination_named s.formulas n ≡ None → length s.formulas ≢ 8 → next ≡ with_destination s n formula → Steps next
-      from next n (Mill recovery price cost) of_n spells new free is =
-          (spells.0, (n, of_n, (recovery, spells.1, (price, spells.2, (cost, spells.3, (new, (free, is)))))))
-      from next n formula of_n spells new free is = absurd spells
+      from next n (Mill recovery price cost) of_n encodes new free is =
+          (encodes.0, (n, of_n, (recovery, encodes.1, (price, encodes.2, (cost, encodes.3, (new, (free, is)))))))
+      from next n formula of_n encodes new free is = absurd encodes
 
   dump_added : Exactly (destination_record formula_key.Dump s cells) (AddsPart (key.Destination formula_key.Dump) s cells)
   dump_added = as_ steps to (λ next h. from next h.0 h.1 h.2 h.3 h.4 h.5 h.6)
     where
       Steps : Stated → Type 0
       Steps next =
-          (length cells ≡ 3) × ((n : List ℕ) × IsNameOf (c 1) n × ((cost : ℕ) × SpellsWhole 0 (10 ^ 7) (c 2) cost × Fresh n (Dump cost) next))
+          (length cells ≡ 3) × ((n : List ℕ) × IsNameOf (c 1) n × ((cost : ℕ) × EncodesInteger 0 (10 ^ 7) (c 2) cost × Fresh n (Dump cost) next))
 
       steps : Exactly (destination_record formula_key.Dump s cells) Steps
       steps = counted Width (length cells) 3 (then_ (name (c 1)) (λ n. then_ (whole 0 (10 ^ 7) (c 2)) (λ cost. fresh n (Dump cost))))
@@ -360,25 +360,25 @@ module _ (s : Stated) (cells : List (List ℕ)) where
       to : (next : Stated) → Steps next → AddsPart (key.Destination formula_key.Dump) s cells next
       to next (three, (n, of_n, (cost, of_cost, (new, (free, is))))) = (n, Dump cost, of_n, (three, of_cost), new, free, is)
 
-      from : (next : Stated) (n : List ℕ) (formula : Formula) → IsNameOf (c 1) n → SpellsFormula formula_key.Dump cells formula
+      from : (next : Stated) (n : List ℕ) (formula : Formula) → IsNameOf (c 1) n → EncodesFormula formula_key.Dump cells formula
           → destination_named s.formulas n ≡ None → length s.formulas ≢ 8 → next ≡ with_destination s n formula → Steps next
-      from next n (Dump cost) of_n spells new free is = (spells.0, (n, of_n, (cost, spells.1, (new, (free, is)))))
-      from next n formula of_n spells new free is = absurd spells
+      from next n (Dump cost) of_n encodes new free is = (encodes.0, (n, of_n, (cost, encodes.1, (new, (free, is)))))
+      from next n formula of_n encodes new free is = absurd encodes
 
   leach_added : Exactly (destination_record formula_key.Leach s cells) (AddsPart (key.Destination formula_key.Leach) s cells)
   leach_added = as_ steps to (λ next h. from next h.0 h.1 h.2 h.3 h.4 h.5 h.6)
     where
       Steps : Stated → Type 0
       Steps next =
-          HasLeachWidth cells × ((n : List ℕ) × IsNameOf (c 1) n × ((price : ℕ) × SpellsWhole 0 (10 ^ 8) (c 2) price
-          × ((cost : ℕ) × SpellsWhole 0 (10 ^ 7) (c 3) cost × ((all : List Band) × SpellBands (drop 4 cells) all
+          HasLeachWidth cells × ((n : List ℕ) × IsNameOf (c 1) n × ((price : ℕ) × EncodesInteger 0 (10 ^ 8) (c 2) price
+          × ((cost : ℕ) × EncodesInteger 0 (10 ^ 7) (c 3) cost × ((all : List Band) × EncodeBands (drop 4 cells) all
           × ((destination_named s.formulas n ≡ None)
           × ((risen : List Band) × ((starts_rise all ≡ true) × ((length all ≤ 16) × (risen ≡ all)))
           × ((length s.formulas ≢ 8) × (next ≡ with_destination s n (Leach risen price cost)))))))))
 
       steps : Exactly (destination_record formula_key.Leach s cells) Steps
       steps =
-          behind Width (leach_width cells).0 (leach_width cells).1 (λ many.
+          following Width (leach_width cells).0 (leach_width cells).1 (λ many.
           let even : length (drop 4 cells) % 2 ≡ 0 = omega (arith, length-drop 4 cells, many.0, many.1) in
           then_ (name (c 1)) (λ n. then_ (whole 0 (10 ^ 8) (c 2)) (λ price. then_ (whole 0 (10 ^ 7) (c 3)) (λ cost.
           then_ (bands (drop 4 cells) even) (λ all. once (destination_named s.formulas n) Twice (then_ (rises all) (λ risen.
@@ -397,41 +397,41 @@ module _ (s : Stated) (cells : List (List ℕ)) where
             is ∙ ap (λ all. with_destination s n (Leach all price cost)) same_bands,
           )
 
-      from : (next : Stated) (n : List ℕ) (formula : Formula) → IsNameOf (c 1) n → SpellsFormula formula_key.Leach cells formula
+      from : (next : Stated) (n : List ℕ) (formula : Formula) → IsNameOf (c 1) n → EncodesFormula formula_key.Leach cells formula
           → destination_named s.formulas n ≡ None → length s.formulas ≢ 8 → next ≡ with_destination s n formula → Steps next
-      from next n (Leach all price cost) of_n spells new free is =
-          let two = pairs (drop 4 cells) all spells.2 in
-          let many : 6 ≤ length cells = omega (arith, length-drop 4 cells, two, spells.3) in
-          let even : length cells % 2 ≡ 0 = omega (arith, length-drop 4 cells, two, spells.3) in (
+      from next n (Leach all price cost) of_n encodes new free is =
+          let two = pairs (drop 4 cells) all encodes.2 in
+          let many : 6 ≤ length cells = omega (arith, length-drop 4 cells, two, encodes.3) in
+          let even : length cells % 2 ≡ 0 = omega (arith, length-drop 4 cells, two, encodes.3) in (
             (many, even),
             (
               n,
               of_n,
               (
                 price,
-                spells.0,
+                encodes.0,
                 (
                   cost,
-                  spells.1,
+                  encodes.1,
                   (
                     all,
-                    spells.2,
+                    encodes.2,
                     (
                       new,
-                      (all, (spells.5, (spells.4, refl)), (free, is)),
+                      (all, (encodes.5, (encodes.4, refl)), (free, is)),
                     ),
                   ),
                 ),
               ),
             ),
           )
-      from next n formula of_n spells new free is = absurd spells
+      from next n formula of_n encodes new free is = absurd encodes
 
   periods_added : Exactly (periods_record s cells) (AddsPart key.Periods s cells)
   periods_added = as_ steps to from
     where
       Steps : Stated → Type 0
-      Steps next = (length cells ≡ 2) × ((n : ℕ) × SpellsWhole 1 100 (c 1) n × ((s.periods ≡ None) × (next ≡ record s { periods = Some n })))
+      Steps next = (length cells ≡ 2) × ((n : ℕ) × EncodesInteger 1 100 (c 1) n × ((s.periods ≡ None) × (next ≡ record s { periods = Some n })))
 
       steps : Exactly (periods_record s cells) Steps
       steps = counted Width (length cells) 2 (then_ (whole 1 100 (c 1)) (λ n. once s.periods Twice (done (record s { periods = Some n }))))
@@ -448,7 +448,7 @@ module _ (s : Stated) (cells : List (List ℕ)) where
       Steps : Stated → Type 0
       Steps next =
           (length cells ≡ 2)
-          × ((r : ℤ) × SpellsNumber 6 (pos 0) (pos (10 ^ 6)) (c 1) r × ((s.rate ≡ None) × (next ≡ record s { rate = Some r })))
+          × ((r : ℤ) × EncodesNumber 6 (pos 0) (pos (10 ^ 6)) (c 1) r × ((s.rate ≡ None) × (next ≡ record s { rate = Some r })))
 
       steps : Exactly (rate_record s cells) Steps
       steps =
@@ -493,47 +493,47 @@ module _ (s : Stated) (cells : List (List ℕ)) where
 
   -- the letter of a limit, and its numbers
   abbrev pub Numbers : Bound → Type 0
-  Numbers (AtMost v) = (c 3 ≡ codes "L") × SpellsTonnes (c 4) v
-  Numbers (AtLeast v) = (c 3 ≡ codes "G") × SpellsTonnes (c 4) v
-  Numbers (Between v w) = (c 3 ≡ codes "I") × SpellsTonnes (c 4) v × SpellsTonnes (c 5) w
+  Numbers (AtMost v) = (c 3 ≡ codes "L") × EncodesTonnes (c 4) v
+  Numbers (AtLeast v) = (c 3 ≡ codes "G") × EncodesTonnes (c 4) v
+  Numbers (Between v w) = (c 3 ≡ codes "I") × EncodesTonnes (c 4) v × EncodesTonnes (c 5) w
 
   pub bound : Exactly (bound_in cells) Numbers
   bound = record {
-    told = λ b e. told (is_letter cells (codes "I")) (is_letter cells (codes "L")) (is_letter cells (codes "G")) refl refl refl b e;
+    reported = λ b e. reported (is_letter cells (codes "I")) (is_letter cells (codes "L")) (is_letter cells (codes "G")) refl refl refl b e;
     back = back;
   }
     where
       is : (letter : List ℕ) → is_letter cells letter ≡ true → c 3 ≡ letter
       is = letter_is cells
 
-      one : (make : ℤ → Bound) → Exactly (tonnes_in (c 4) >>= λ v. Ok (make v)) (λ b. (v : ℤ) × SpellsTonnes (c 4) v × (b ≡ make v))
+      one : (make : ℤ → Bound) → Exactly (tonnes_in (c 4) >>= λ v. Ok (make v)) (λ b. (v : ℤ) × EncodesTonnes (c 4) v × (b ≡ make v))
       one make = then_ (tonnes (c 4)) (λ v. done (make v))
 
       two : Exactly (tonnes_in (c 4) >>= λ v. tonnes_in (c 5) >>= λ w. Ok (Between v w))
-          (λ b. (v : ℤ) × SpellsTonnes (c 4) v × ((w : ℤ) × SpellsTonnes (c 5) w × (b ≡ Between v w)))
+          (λ b. (v : ℤ) × EncodesTonnes (c 4) v × ((w : ℤ) × EncodesTonnes (c 5) w × (b ≡ Between v w)))
       two = then_ (tonnes (c 4)) (λ v. then_ (tonnes (c 5)) (λ w. done (Between v w)))
 
-      told : (i l g : Bool) → is_letter cells (codes "I") ≡ i → is_letter cells (codes "L") ≡ l → is_letter cells (codes "G") ≡ g → (b : Bound)
+      reported : (i l g : Bool) → is_letter cells (codes "I") ≡ i → is_letter cells (codes "L") ≡ l → is_letter cells (codes "G") ≡ g → (b : Bound)
           → (if i then (tonnes_in (c 4) >>= λ v. tonnes_in (c 5) >>= λ w. Ok (Between v w))
           else (if l then (tonnes_in (c 4) >>= λ v. Ok (AtMost v))
           else (if g then (tonnes_in (c 4) >>= λ v. Ok (AtLeast v))
           else Err Name))) ≡ Ok b → Numbers b
-      told true l g at_i at_l at_g b e = let h = two.told b e in subst Numbers (sym h.2.2) (is (codes "I") at_i, h.1, h.2.1)
-      told false true g at_i at_l at_g b e = let h = (one AtMost).told b e in subst Numbers (sym h.2) (is (codes "L") at_l, h.1)
-      told false false true at_i at_l at_g b e = let h = (one AtLeast).told b e in subst Numbers (sym h.2) (is (codes "G") at_g, h.1)
-      told false false false at_i at_l at_g b e = absurd cc
+      reported true l g at_i at_l at_g b e = let h = two.reported b e in subst Numbers (sym h.2.2) (is (codes "I") at_i, h.1, h.2.1)
+      reported false true g at_i at_l at_g b e = let h = (one AtMost).reported b e in subst Numbers (sym h.2) (is (codes "L") at_l, h.1)
+      reported false false true at_i at_l at_g b e = let h = (one AtLeast).reported b e in subst Numbers (sym h.2) (is (codes "G") at_g, h.1)
+      reported false false false at_i at_l at_g b e = absurd cc
 
       back : (b : Bound) → Numbers b → bound_in cells ≡ Ok b
       back (AtMost v) h = rw h.0 ((one AtMost).back (AtMost v) (v, h.1, refl))
       back (AtLeast v) h = rw h.0 ((one AtLeast).back (AtLeast v) (v, h.1, refl))
       back (Between v w) h = rw h.0 (two.back (Between v w) (v, h.1, (w, h.2, refl)))
 
-  pub bound_to : IsAsWide cells → (b : Bound) → Numbers b → SpellsBound cells b
+  pub bound_to : IsAsWide cells → (b : Bound) → Numbers b → EncodesBound cells b
   bound_to many (AtMost v) h = (rw h.0 at many, h.0, h.1)
   bound_to many (AtLeast v) h = (rw h.0 at many, h.0, h.1)
   bound_to many (Between v w) h = (rw h.0 at many, h.0, h.1, h.2)
 
-  pub bound_from : (b : Bound) → SpellsBound cells b → IsAsWide cells × Numbers b
+  pub bound_from : (b : Bound) → EncodesBound cells b → IsAsWide cells × Numbers b
   bound_from (AtMost v) h = (rw h.1 h.0, (h.1, h.2))
   bound_from (AtLeast v) h = (rw h.1 h.0, (h.1, h.2))
   bound_from (Between v w) h = (rw h.1 h.0, (h.1, h.2, h.3))
@@ -549,7 +549,7 @@ module _ (s : Stated) (cells : List (List ℕ)) where
       Steps : Stated → Type 0
       Steps next =
           IsAsWide cells × ((resource : ℕ) × (resource_named s.resources (c 1) ≡ Some resource)
-          × ((period : ℕ) × SpellsBelow (unwrap_or s.periods 0) (c 2) period × ((b : Bound) × Numbers b
+          × ((period : ℕ) × EncodesBelow (unwrap_or s.periods 0) (c 2) period × ((b : Bound) × Numbers b
           × Alone (record { resource = resource; period = period; bound = b }) next)))
 
       steps : Exactly (limit_record s cells) Steps

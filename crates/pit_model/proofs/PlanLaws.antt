@@ -1,22 +1,23 @@
--- A text states a plan exactly where its records state it, and its fault is that of the first that does not, or a part that is missing.
+-- A text states a plan if and only if its records encode it. Otherwise the first invalid record has the fault, or a part is
+-- missing.
 use Rattle.std.specs.Prelude.{◌≡◌, ℕ, suc, ◌+◌, ◌≤◌, ◌==◌, ◌||◌, nat_le, not, Bool, true, false, List, [], ◌∷◌, ◌++◌, length, ℤ, Option, Some, None, Result, Ok, Err, ◌⊎◌, if◌then◌else◌}
 use Rattle.std.proofs.Common.{refl, arith, sym, ◌∙◌, ap, subst, inl, inr, leb-true}
 use Rattle.std.proofs.lemmas.Bool.{le-leb, ne_eqb, not-false}
 use Rattle.pit_units.specs.Steps.{◌>>=◌}
 use Rattle.plan_parts.specs.Plan.{PlanParts}
-use Rattle.plan_parts.specs.PlanKept.{plan_of}
+use Rattle.plan_parts.specs.PlanInvariant.{plan_of}
 use Rattle.plan_parts.specs.declared.grid.Grid.{Grid}
 use Rattle.pit_units.proofs.Exactly.{Exactly, done, same, tested, then_}
 use Rattle.pit_model.proofs.KeyFacts.{key_back, key_found}
 use Rattle.pit_model.proofs.PartFaults.{part_fails}
 use Rattle.pit_model.proofs.PartsAdded.{part_added}
-use Rattle.pit_model.proofs.Says.{Says, asks, no_fault}
+use Rattle.pit_model.proofs.FailsExactly.{FailsExactly, asks, no_fault}
 use Rattle.pit_model.specs.AddedParts.{AddsPart}
 use Rattle.pit_model.specs.FailedParts.{Asks, CellsFail, PartFails, RecordFails}
 use Rattle.pit_model.specs.PlanKeys.{IsKey, key_of}
 use Rattle.pit_model.specs.Planned.{at_row, finished, planned, record_at, records_from, whole_plan}
 use Rattle.pit_model.specs.PlanRecords.{key_record, record_of}
-use Rattle.pit_model.specs.SpelledPlan.{ArePlan, CellsAdd, IsFirstFault, IsFirstSpoiled, IsLacking, RecordStates, RecordsState, SpellPlan}
+use Rattle.pit_model.specs.EncodedPlan.{ArePlan, CellsAdd, EncodePlan, IsFirstFault, IsFirstSpoiled, IsLacking, RecordStates, RecordsState}
 use Rattle.records.specs.RecordCells.{cells_of}
 use Rattle.records.specs.Records.{records_of}
 use Rattle.pit_model.specs.Stated.{Stated, nothing_stated}
@@ -26,24 +27,24 @@ use Rattle.pit_model.specs.declared.plan_fault.PlanFaultKind.TheVariants.{Key, M
 use Rattle.pit_model.specs.declared.plan_key.PlanKey.{PlanKey}
 
 at : {A : Type 0} {r : Result A PlanFaultKind} {P : A → Type 0} (number : ℕ) → Exactly r P → Exactly (at_row number r) P
-at {A} {r} {P} number all = record { told = λ y e. all.told y (told r y e); back = λ y h. ap (at_row number) (all.back y h) }
+at {A} {r} {P} number all = record { reported = λ y e. all.reported y (reported r y e); back = λ y h. ap (at_row number) (all.back y h) }
   where
-    told : (r : Result A PlanFaultKind) (y : A) → at_row number r ≡ Ok y → r ≡ Ok y
-    told (Ok x) y e = ap Ok (same x y e)
-    told (Err kind) y e = absurd cc
+    reported : (r : Result A PlanFaultKind) (y : A) → at_row number r ≡ Ok y → r ≡ Ok y
+    reported (Ok x) y e = ap Ok (same x y e)
+    reported (Err kind) y e = absurd cc
 
--- the record of a key, and a record of some cells
+-- the record with a key, and a record of cells
 keyed : (s : Stated) (first : List ℕ) (cells : List (List ℕ))
     → Exactly (key_record (key_of first) s cells) (λ next. (k : PlanKey) × IsKey first k × AddsPart k s cells next)
 keyed s first cells = record {
-  told = λ next e. told (key_of first) refl next e;
+  reported = λ next e. reported (key_of first) refl next e;
   back = λ next h. ap (λ o. key_record o s cells) (key_back first h.0 h.1) ∙ (part_added s cells h.0).back next h.2;
 }
   where
-    told : (o : Option PlanKey) → key_of first ≡ o → (next : Stated) → key_record o s cells ≡ Ok next
+    reported : (o : Option PlanKey) → key_of first ≡ o → (next : Stated) → key_record o s cells ≡ Ok next
         → (k : PlanKey) × IsKey first k × AddsPart k s cells next
-    told None is next e = absurd cc
-    told (Some k) is next e = (k, key_found first k is, (part_added s cells k).told next e)
+    reported None is next e = absurd cc
+    reported (Some k) is next e = (k, key_found first k is, (part_added s cells k).reported next e)
 
 of_key : (s : Stated) (first : List ℕ) (cells : List (List ℕ))
     → record_of s (first ∷ cells) ≡ key_record (key_of first) s (first ∷ cells)
@@ -56,21 +57,21 @@ cells_stated s (first ∷ cells) =
     subst (λ r. Exactly r (CellsAdd s (first ∷ cells))) (sym (of_key s first cells)) (keyed s first (first ∷ cells))
 
 keyed_fails : (s : Stated) (first : List ℕ) (cells : List (List ℕ))
-    → Says (key_record (key_of first) s cells)
+    → FailsExactly (key_record (key_of first) s cells)
     (Asks ((k : PlanKey) × IsKey first k) Key (λ kind. (k : PlanKey) × IsKey first k × PartFails k s cells kind))
 keyed_fails s first cells = by (key_of first) refl
   where
     Fault : PlanFaultKind → Type 0
     Fault = Asks ((k : PlanKey) × IsKey first k) Key (λ kind. (k : PlanKey) × IsKey first k × PartFails k s cells kind)
 
-    by : (o : Option PlanKey) → key_of first ≡ o → Says (key_record o s cells) Fault
+    by : (o : Option PlanKey) → key_of first ≡ o → FailsExactly (key_record o s cells) Fault
     by None is =
         asks {r = Err Key} {t = true} Key (λ e. absurd cc) (λ h. absurd (cc (is, key_back first h.0 h.1)))
         (λ h. absurd (cc (is, key_back first h.0 h.1)))
-    by (Some k) is = record { told = told; back = back }
+    by (Some k) is = record { reported = reported; back = back }
       where
-        told : (f : PlanFaultKind) → key_record (Some k) s cells ≡ Err f → Fault f
-        told f e = let key = key_found first k is in inr ((k, key), (k, key, (part_fails s cells k).told f e))
+        reported : (f : PlanFaultKind) → key_record (Some k) s cells ≡ Err f → Fault f
+        reported f e = let key = key_found first k is in inr ((k, key), (k, key, (part_fails s cells k).reported f e))
 
         back : (f : PlanFaultKind) → Fault f → key_record (Some k) s cells ≡ Err f
         back f (inl (never, same)) = absurd (never (k, key_found first k is))
@@ -78,12 +79,12 @@ keyed_fails s first cells = by (key_of first) refl
             let one : Some k ≡ Some j = sym is ∙ key_back first j key in
             ap (λ o. key_record o s cells) one ∙ (part_fails s cells j).back f fails
 
-cells_fail : (s : Stated) (cells : List (List ℕ)) → Says (record_of s cells) (CellsFail s cells)
+cells_fail : (s : Stated) (cells : List (List ℕ)) → FailsExactly (record_of s cells) (CellsFail s cells)
 cells_fail s [] = no_fault s
 cells_fail s (first ∷ cells) =
-    subst (λ r. Says r (CellsFail s (first ∷ cells))) (sym (of_key s first cells)) (keyed_fails s first (first ∷ cells))
+    subst (λ r. FailsExactly r (CellsFail s (first ∷ cells))) (sym (of_key s first cells)) (keyed_fails s first (first ∷ cells))
 
--- the record of a number
+-- the record with a number
 module _ (number : ℕ) (s : Stated) (row : List (List ℕ)) where
   few : not (nat_le number 10000) ≡ false → number ≤ 10000
   few e = leb-true number 10000 (not-false (nat_le number 10000) e)
@@ -94,11 +95,11 @@ module _ (number : ℕ) (s : Stated) (row : List (List ℕ)) where
   pub record_stated : Exactly (record_at number s row) (RecordStates number s row)
   record_stated = at number (tested TooMany few many (cells_stated s (cells_of row)))
 
-  kind_fails : Says (if not (nat_le number 10000) then Err TooMany else record_of s (cells_of row)) (RecordFails number s (cells_of row))
+  kind_fails : FailsExactly (if not (nat_le number 10000) then Err TooMany else record_of s (cells_of row)) (RecordFails number s (cells_of row))
   kind_fails = asks TooMany few many (λ h. cells_fail s (cells_of row))
 
-  record_told : (fault : PlanFault) → record_at number s row ≡ Err fault → (fault.row ≡ number) × RecordFails number s (cells_of row) fault.kind
-  record_told fault e = by (if not (nat_le number 10000) then Err TooMany else record_of s (cells_of row)) refl e
+  record_reported : (fault : PlanFault) → record_at number s row ≡ Err fault → (fault.row ≡ number) × RecordFails number s (cells_of row) fault.kind
+  record_reported fault e = by (if not (nat_le number 10000) then Err TooMany else record_of s (cells_of row)) refl e
     where
       by : (r : Result Stated PlanFaultKind) → (if not (nat_le number 10000) then Err TooMany else record_of s (cells_of row)) ≡ r
           → at_row number r ≡ Err fault → (fault.row ≡ number) × RecordFails number s (cells_of row) fault.kind
@@ -106,7 +107,7 @@ module _ (number : ℕ) (s : Stated) (row : List (List ℕ)) where
       by (Err kind) is e =
           let same : record { row = number; kind = kind } ≡ fault = cc in (
             ap (λ (f : PlanFault). f.row) (sym same),
-            kind_fails.told fault.kind (is ∙ ap (λ (f : PlanFault). Err f.kind) same),
+            kind_fails.reported fault.kind (is ∙ ap (λ (f : PlanFault). Err f.kind) same),
           )
 
   record_back : (fault : PlanFault) → fault.row ≡ number → RecordFails number s (cells_of row) fault.kind → record_at number s row ≡ Err fault
@@ -117,7 +118,7 @@ records_stated : (number : ℕ) (s : Stated) (rows : List (List (List ℕ))) →
 records_stated number s [] = done s
 records_stated number s (row ∷ rows) = then_ (record_stated number s row) (λ next. records_stated (suc number) next rows)
 
--- the parts of a plan, and none that is missing
+-- the parts of a plan, none of them missing
 module _ (s : Stated) where
   Parts : Option (List ℕ) → Option Grid → Option ℕ → Option ℤ → Type 0
   Parts name grid periods rate = (s.name ≡ name) × (s.grid ≡ grid) × (s.periods ≡ periods) × (s.rate ≡ rate)
@@ -130,12 +131,12 @@ module _ (s : Stated) where
   none xs h = ne_eqb (length xs) 0 (λ e. omega (arith, h, e))
 
   pub plan_finished : Exactly (finished s) (ArePlan s)
-  plan_finished = record { told = λ p e. told s.name s.grid s.periods s.rate refl refl refl refl p e; back = back }
+  plan_finished = record { reported = λ p e. reported s.name s.grid s.periods s.rate refl refl refl refl p e; back = back }
     where
-      told : (name : Option (List ℕ)) (grid : Option Grid) (periods : Option ℕ) (rate : Option ℤ)
+      reported : (name : Option (List ℕ)) (grid : Option Grid) (periods : Option ℕ) (rate : Option ℤ)
           → s.name ≡ name → s.grid ≡ grid → s.periods ≡ periods → s.rate ≡ rate
           → (p : PlanParts) → whole_plan name grid periods rate s ≡ Ok p → ArePlan s p
-      told (Some name) (Some grid) (Some periods) (Some rate) n g k r p e = by (length s.cones == 0) refl (length s.formulas == 0) refl e
+      reported (Some name) (Some grid) (Some periods) (Some rate) n g k r p e = by (length s.cones == 0) refl (length s.formulas == 0) refl e
         where
           by : (c : Bool) → (length s.cones == 0) ≡ c → (f : Bool) → (length s.formulas == 0) ≡ f
               → (if c || f then Err Missing else Ok (plan_of name grid s.cones s.formulas periods rate s.resources s.limits)) ≡ Ok p → ArePlan s p
@@ -152,10 +153,10 @@ module _ (s : Stated) where
                 resources = refl;
                 limits = refl;
               })
-      told None grid periods rate n g k r p e = absurd cc
-      told (Some name) None periods rate n g k r p e = absurd cc
-      told (Some name) (Some grid) None rate n g k r p e = absurd cc
-      told (Some name) (Some grid) (Some periods) None n g k r p e = absurd cc
+      reported None grid periods rate n g k r p e = absurd cc
+      reported (Some name) None periods rate n g k r p e = absurd cc
+      reported (Some name) (Some grid) None rate n g k r p e = absurd cc
+      reported (Some name) (Some grid) (Some periods) None n g k r p e = absurd cc
 
       back : (p : PlanParts) → ArePlan s p → finished s ≡ Ok p
       back p h =
@@ -173,44 +174,44 @@ module _ (s : Stated) where
             limits = sym h.limits i;
           }))
 
-  -- what else it answers is that a part is missing
+  -- its only fault is that a part is missing
   lacks : (kind : PlanFaultKind) → finished s ≡ Err kind → kind ≡ Missing
-  lacks kind e = told s.name s.grid s.periods s.rate e
+  lacks kind e = reported s.name s.grid s.periods s.rate e
     where
-      told : (name : Option (List ℕ)) (grid : Option Grid) (periods : Option ℕ) (rate : Option ℤ) → whole_plan name grid periods rate s ≡ Err kind
+      reported : (name : Option (List ℕ)) (grid : Option Grid) (periods : Option ℕ) (rate : Option ℤ) → whole_plan name grid periods rate s ≡ Err kind
           → kind ≡ Missing
-      told (Some name) (Some grid) (Some periods) (Some rate) e = by ((length s.cones == 0) || (length s.formulas == 0)) e
+      reported (Some name) (Some grid) (Some periods) (Some rate) e = by ((length s.cones == 0) || (length s.formulas == 0)) e
         where
           by : (t : Bool) → (if t then Err Missing else Ok (plan_of name grid s.cones s.formulas periods rate s.resources s.limits)) ≡ Err kind
               → kind ≡ Missing
           by true e = let same : Missing ≡ kind = cc in sym same
           by false e = absurd cc
-      told None grid periods rate e = let same : Missing ≡ kind = cc in sym same
-      told (Some name) None periods rate e = let same : Missing ≡ kind = cc in sym same
-      told (Some name) (Some grid) None rate e = let same : Missing ≡ kind = cc in sym same
-      told (Some name) (Some grid) (Some periods) None e = let same : Missing ≡ kind = cc in sym same
+      reported None grid periods rate e = let same : Missing ≡ kind = cc in sym same
+      reported (Some name) None periods rate e = let same : Missing ≡ kind = cc in sym same
+      reported (Some name) (Some grid) None rate e = let same : Missing ≡ kind = cc in sym same
+      reported (Some name) (Some grid) (Some periods) None e = let same : Missing ≡ kind = cc in sym same
 
   lacking : ((p : PlanParts) → ¬ (ArePlan s p)) → finished s ≡ Err Missing
   lacking never = by (finished s) refl
     where
       by : (r : Result PlanParts PlanFaultKind) → finished s ≡ r → finished s ≡ Err Missing
-      by (Ok p) is = absurd (never p (plan_finished.told p is))
+      by (Ok p) is = absurd (never p (plan_finished.reported p is))
       by (Err kind) is = is ∙ ap Err (lacks kind is)
 
-pub plan_spelled : (text : List ℕ) → Exactly (planned text) (SpellPlan (records_of text))
-plan_spelled text =
+pub plan_encoded : (text : List ℕ) → Exactly (planned text) (EncodePlan (records_of text))
+plan_encoded text =
     then_ (records_stated 1 nothing_stated (records_of text)) (λ s. at (length (records_of text) + 1) (plan_finished s))
 
-first_told : (rows : List (List (List ℕ))) (number : ℕ) (s : Stated) (fault : PlanFault) → records_from number s rows ≡ Err fault
+first_reported : (rows : List (List (List ℕ))) (number : ℕ) (s : Stated) (fault : PlanFault) → records_from number s rows ≡ Err fault
     → IsFirstFault number s rows fault
-first_told [] number s fault e = absurd cc
-first_told (row ∷ rows) number s fault e = by (λ next e. first_told rows (suc number) next fault e) (record_at number s row) refl e
+first_reported [] number s fault e = absurd cc
+first_reported (row ∷ rows) number s fault e = by (λ next e. first_reported rows (suc number) next fault e) (record_at number s row) refl e
   where
     by : ((next : Stated) → records_from (suc number) next rows ≡ Err fault → IsFirstFault (suc number) next rows fault)
         → (r : Result Stated PlanFault) → record_at number s row ≡ r → (r >>= λ next. records_from (suc number) next rows) ≡ Err fault
         → IsFirstFault number s (row ∷ rows) fault
-    by more (Ok next) is e = inr (next, (record_stated number s row).told next is, more next e)
-    by more (Err other) is e = inl (record_told number s row fault (is ∙ e))
+    by more (Ok next) is e = inr (next, (record_stated number s row).reported next is, more next e)
+    by more (Err other) is e = inl (record_reported number s row fault (is ∙ e))
 
 first_back : (rows : List (List (List ℕ))) (number : ℕ) (s : Stated) (fault : PlanFault) → IsFirstFault number s rows fault
     → records_from number s rows ≡ Err fault
@@ -244,22 +245,22 @@ planned_fails text fault e = by (records_from 1 nothing_stated (records_of text)
     by : (r : Result Stated PlanFault) → records_from 1 nothing_stated (records_of text) ≡ r
         → (r >>= λ s. at_row number (finished s)) ≡ Err fault
         → IsFault text fault
-    by (Ok s) is e = inr (ends s ((records_stated 1 nothing_stated (records_of text)).told s is) (finished s) refl e)
+    by (Ok s) is e = inr (ends s ((records_stated 1 nothing_stated (records_of text)).reported s is) (finished s) refl e)
     by (Err other) is e =
         let same : other ≡ fault = cc in
-        inl (first_told (records_of text) 1 nothing_stated fault (is ∙ ap Err same))
+        inl (first_reported (records_of text) 1 nothing_stated fault (is ∙ ap Err same))
 
 pub fails_planned : (text : List ℕ) (fault : PlanFault) → IsFault text fault → planned text ≡ Err fault
 fails_planned text fault (inl first) = rw (first_back (records_of text) 1 nothing_stated fault first) refl
 fails_planned text fault (inr (s, all, never, kind, place)) =
     rw ((records_stated 1 nothing_stated (records_of text)).back s all, lacking s never) (λ i. Err (record { row = sym place i; kind = sym kind i }))
 
--- a record that states nothing, behind others that do, ends the reading, whatever stands behind it
+-- the first record that states nothing ends the reading, whatever records follow
 record Stops (number : ℕ) (s : Stated) (rows : List (List (List ℕ))) (fault : PlanFault) : Type 0 where
   before : List (List (List ℕ))
   bad : List (List ℕ)
-  behind : List (List (List ℕ))
-  cut : rows ≡ before ++ bad ∷ behind
+  following : List (List (List ℕ))
+  cut : rows ≡ before ++ bad ∷ following
   place : fault.row ≡ length before + number
   state : Stated
   begun : RecordsState number s before state
@@ -271,7 +272,7 @@ first_stops [] number s fault first = absurd first
 first_stops (row ∷ rows) number s fault (inl (place, fails)) = record {
   before = [];
   bad = row;
-  behind = rows;
+  following = rows;
   cut = refl;
   place = omega (arith, place);
   state = s;
@@ -283,7 +284,7 @@ first_stops (row ∷ rows) number s fault (inr (next, states, more)) =
     record {
       before = row ∷ later.before;
       bad = later.bad;
-      behind = later.behind;
+      following = later.following;
       cut = ap (λ rows. row ∷ rows) later.cut;
       place = omega (arith, later.place);
       state = later.state;
@@ -298,13 +299,13 @@ plan_spoiled text fault e =
       | inl first ↦ inl (let stop = first_stops (records_of text) 1 nothing_stated fault first in record {
         before = stop.before;
         bad = stop.bad;
-        behind = stop.behind;
+        following = stop.following;
         cut = stop.cut;
         place = stop.place;
         state = stop.state;
         begun = stop.begun;
-        spoiled = λ others p spelled.
-            absurd (cc (stop.stops others, (records_stated 1 nothing_stated (stop.before ++ stop.bad ∷ others)).back spelled.0 spelled.1));
+        spoiled = λ others p encoded.
+            absurd (cc (stop.stops others, (records_stated 1 nothing_stated (stop.before ++ stop.bad ∷ others)).back encoded.0 encoded.1));
       })
       | inr lacks ↦ inr lacks
     ]

@@ -1,4 +1,4 @@
--- One record of a plan after the other: what the records ahead state, behind those before them.
+-- Reading a plan record by record: what the remaining records add to the earlier ones.
 use Rattle.std.proofs.Common.{◌≡◌, ◌<◌, ◌≤◌, ℕ, suc, ◌+◌, true, false, List, [], ◌∷◌, Result, Ok, Err, refl, sym, ◌∙◌, ap, arith, length, nat_le}
 use Rattle.std.proofs.lemmas.Bool.Decides.{nat_tests}
 use Rattle.pit_units.specs.Steps.{◌>>=◌}
@@ -15,7 +15,7 @@ use Rattle.pit_units.specs.OrMemory.{Gives}
 use Rattle.pit_units.specs.declared.or_memory.OrMemory.{OrMemory}
 use Rattle.pit_units.specs.declared.or_memory.OrMemory.TheVariants.{Fault, OutOfMemory}
 
--- the plan of these records, the first of them of this number
+-- the plan of these records; the first has this number
 abbrev pub plan_from : List (List (List ℕ)) → ℕ → Stated → Result PlanParts PlanFault
 plan_from rows n s = records_from n s rows >>= λ last. at_row (n + length rows) (finished last)
 
@@ -24,13 +24,13 @@ all_planned text =
     let same : 1 + length (records_of text) ≡ length (records_of text) + 1 = omega arith in
     ap (λ n. records_from 1 nothing_stated (records_of text) >>= λ last. at_row n (finished last)) same
 
--- the records ahead state this plan
+-- the remaining records state this plan
 abbrev pub Leads : RecordReaderView → ℕ → Stated → Result PlanParts PlanFault → Type 0
 Leads (Rows rows) n s stated = plan_from rows n s ≡ stated
 Leads Over n s stated = ⊥
 Leads GaveUp n s stated = ⊥
 
--- a record whose number is not too great, and one whose number is
+-- a record whose number is within the maximum, and one whose number is above it
 pub numbered : (n : ℕ) (s : Stated) (row : List (List ℕ)) → n ≤ 10000
     → record_at n s row ≡ at_row n (record_of s (cells_of row))
 numbered n s row few = let test : nat_le n 10000 ≡ true = grind (arith, nat_tests) in rw test refl
@@ -38,7 +38,7 @@ numbered n s row few = let test : nat_le n 10000 ≡ true = grind (arith, nat_te
 pub too_many : (n : ℕ) (s : Stated) (row : List (List ℕ)) → 10000 < n → record_at n s row ≡ Err (record { row = n; kind = TooMany })
 too_many n s row past = let test : nat_le n 10000 ≡ false = grind (arith, nat_tests) in rw test refl
 
--- the first of them
+-- the first of these records
 one : (row : List (List ℕ)) (rows : List (List (List ℕ))) (n : ℕ) (s : Stated)
     → plan_from (row ∷ rows) n s ≡ (record_at n s row >>= λ next. plan_from rows (n + 1) next)
 one row rows n s =
@@ -55,7 +55,7 @@ one row rows n s =
     by (Ok next) = refl
     by (Err fault) = refl
 
--- a record was taken: it and those ahead now are those that were ahead
+-- a record was read: it and the remaining records are the records that remained before
 took : (E : Type 0) (old : RecordReaderView) (fields : List (List ℕ))
     (after : RecordReaderView) (n : ℕ) (s : Stated) (stated : Result PlanParts PlanFault)
     → TakesRow {E = E} old (Ok true) fields after → Leads old n s stated
@@ -73,7 +73,7 @@ ended E (Rows (row ∷ rows)) fields after n s stated t h = absurd (cc (t.0))
 ended E Over fields after n s stated t h = absurd h
 ended E GaveUp fields after n s stated t h = absurd t
 
--- the record states what is next, or has a fault
+-- the record states what comes next, or has a fault
 pub admitted : (E : Type 0) (old : RecordReaderView) (fields : List (List ℕ))
     (after : RecordReaderView) (n : ℕ) (s next : Stated) (stated : Result PlanParts PlanFault)
     → TakesRow {E = E} old (Ok true) fields after → Leads old n s stated → record_at n s fields ≡ Ok next

@@ -1,10 +1,10 @@
--- What the record of a destination states, cell by cell, or its first fault: a mill, a leach or a dump.
+-- What the record of a destination (a mill, a leach or a dump) states, cell by cell, or its first fault.
 use Rattle.std.specs.Prelude.{ℕ, ◌%◌, ◌==◌, ◌||◌, not, nat_le, nat_lt, List, [], ◌∷◌, length, drop, pos, unsigned_abs, is_some, Result, Ok, Err, if◌then◌else◌}
 use Rattle.pit_units.specs.Steps.{◌>>=◌}
 use Rattle.records.specs.RecordCells.{cell_at}
-use Rattle.plan_parts.specs.formulas.BandsKept.{starts_rise}
+use Rattle.plan_parts.specs.formulas.BandsInvariant.{starts_rise}
 use Rattle.pit_model.specs.Stated.{Stated, destination_named, with_destination}
-use Rattle.pit_model.specs.StatedCells.{name_in, number_in, whole_in}
+use Rattle.pit_model.specs.StatedCells.{integer_in, name_in, number_in}
 use Rattle.plan_parts.specs.declared.formulas.band.Band.{Band}
 use Rattle.pit_model.specs.declared.draft.formulas.FormulaKey.{FormulaKey}
 use Rattle.pit_model.specs.declared.draft.formulas.FormulaKey.TheVariants as key
@@ -16,15 +16,15 @@ use Rattle.plan_parts.specs.declared.ranges.TheConstants.{MAX_BANDS, MAX_COST, M
 
 -- a recovery of 0 to 1000 per mille, a price of 0 to 10^8 cents a kilogram, a cost of 0 to 10^7 cents a tonne
 abbrev pub recovery_in : List ℕ → Result ℕ PlanFaultKind
-recovery_in cell = whole_in 0 MAX_RECOVERY cell
+recovery_in cell = integer_in 0 MAX_RECOVERY cell
 
 abbrev pub price_in : List ℕ → Result ℕ PlanFaultKind
-price_in cell = whole_in 0 MAX_PRICE cell
+price_in cell = integer_in 0 MAX_PRICE cell
 
 abbrev pub cost_in : List ℕ → Result ℕ PlanFaultKind
-cost_in cell = whole_in 0 MAX_COST cell
+cost_in cell = integer_in 0 MAX_COST cell
 
--- pairs of a start, 0 to 1,000,000 g/t with six decimals, and a recovery; the width of a record leaves no lone cell
+-- pairs of a start, 0 to 1,000,000 g/t with six decimals, and a recovery. The width of a record excludes a single last cell
 abbrev pub band_in : List ℕ → List ℕ → Result Band PlanFaultKind
 band_in start recovery = do
   from ← number_in 6 (pos 0) (pos MAX_GRADE) start
@@ -38,15 +38,15 @@ bands_in (start ∷ recovery ∷ cells) = do
   Ok (band ∷ bands)
 bands_in cells = Ok []
 
--- one destination more, of at most 8
+-- the plan with another destination, up to 8
 abbrev pub destination_more : Stated → List ℕ → Formula → Result Stated PlanFaultKind
 destination_more s name formula = if length s.formulas == MAX_DESTINATIONS then Err TooMany else Ok (with_destination s name formula)
 
--- of a NAME that no destination has yet
+-- the same, for a NAME that no destination has yet
 abbrev pub fresh_destination : Stated → List ℕ → Formula → Result Stated PlanFaultKind
 fresh_destination s name formula = if is_some (destination_named s.formulas name) then Err Twice else destination_more s name formula
 
--- bands rise, and are at most 16
+-- the bands, if their starts rise and they are at most 16
 abbrev pub rising : List Band → Result (List Band) PlanFaultKind
 rising bands = if not (starts_rise bands) then Err Order else (if not (nat_le (length bands) MAX_BANDS) then Err TooMany else Ok bands)
 
@@ -55,7 +55,7 @@ fresh_leach s name bands price cost =
     if is_some (destination_named s.formulas name) then Err Twice
     else (rising bands >>= λ bands. destination_more s name (Leach bands price cost))
 
--- `mill, NAME, recovery, price, cost`; `leach, NAME, price, cost`, and one band or more; `dump, NAME, cost`
+-- `mill, NAME, recovery, price, cost`; `leach, NAME, price, cost`, and one or more bands; `dump, NAME, cost`
 abbrev pub destination_record : FormulaKey → Stated → List (List ℕ) → Result Stated PlanFaultKind
 destination_record key.Mill s cells =
     if not (length cells == 5) then Err Width else do

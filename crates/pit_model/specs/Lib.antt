@@ -1,13 +1,13 @@
 pub mod AddedParts
 pub mod DestinationRecords
+pub mod EncodedCells
+pub mod EncodedParts
+pub mod EncodedPlan
 pub mod FailedParts
 pub mod FaultText
 pub mod PlanKeys
 pub mod PlanRecords
 pub mod Planned
-pub mod SpelledCells
-pub mod SpelledParts
-pub mod SpelledPlan
 pub mod Stated
 pub mod StatedCells
 pub mod inner

@@ -1,4 +1,4 @@
--- The keys of a plan's records: what a record's first cell says that it is about, its letters in any case.
+-- The keys of a plan's records: the subject that a record's first cell names, in upper or lower case.
 use Rattle.std.specs.Prelude.{◌≡◌, ℕ, true, List, Option, Some, None, codes, if◌then◌else◌}
 use Rattle.std.specs.Option.{option_map}
 use Rattle.records.specs.Cells.{is_word}
@@ -7,7 +7,7 @@ use Rattle.pit_model.specs.declared.draft.formulas.FormulaKey.TheVariants.{Mill,
 use Rattle.pit_model.specs.declared.plan_key.PlanKey.{PlanKey}
 use Rattle.pit_model.specs.declared.plan_key.PlanKey.TheVariants.{Name, Grid, Zone, Periods, Rate, Resource, Limit, Destination}
 
--- the word of a formula, and of a key
+-- the word of a formula, and the word of a key
 abbrev pub formula_word : FormulaKey → List ℕ
 formula_word Mill = codes "mill"
 formula_word Leach = codes "leach"
@@ -23,11 +23,11 @@ key_word Rate = codes "rate"
 key_word Resource = codes "resource"
 key_word Limit = codes "limit"
 
--- the cell is the word of this key
+-- the cell is this key's word
 abbrev pub IsKey : List ℕ → PlanKey → Type 0
 IsKey cell k = is_word cell (key_word k) ≡ true
 
--- the formula whose key a cell is
+-- the formula whose key is this cell
 abbrev pub formula_key_of : List ℕ → Option FormulaKey
 formula_key_of cell =
     if is_word cell (formula_word Mill) then Some Mill
@@ -35,7 +35,7 @@ formula_key_of cell =
     else (if is_word cell (formula_word Dump) then Some Dump
     else None))
 
--- the key that a cell is
+-- the key that this cell is
 abbrev pub key_of : List ℕ → Option PlanKey
 key_of cell =
     if is_word cell (key_word Name) then Some Name

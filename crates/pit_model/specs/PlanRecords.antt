@@ -1,14 +1,14 @@
--- What a record of a plan states behind those before it, cell by cell, or its first fault.
+-- What a record of a plan adds to earlier records, cell by cell, or its first fault.
 use Rattle.std.specs.Prelude.{ℕ, ◌==◌, ◌||◌, not, nat_lt, Bool, List, [], ◌∷◌, length, drop, ℤ, pos, Option, Some, None, is_some, unwrap_or, codes, Result, Ok, Err, if◌then◌else◌}
 use Rattle.std.specs.List.{list_any}
 use Rattle.std.specs.Str.{bytes_eq}
 use Rattle.pit_units.specs.Steps.{◌>>=◌}
 use Rattle.records.specs.RecordCells.{cell_at}
-use Rattle.plan_parts.specs.PlanKept.{has_repeat, is_turned}
+use Rattle.plan_parts.specs.PlanInvariant.{has_repeat, is_turned}
 use Rattle.pit_model.specs.DestinationRecords.{destination_record}
 use Rattle.pit_model.specs.PlanKeys.{key_of}
 use Rattle.pit_model.specs.Stated.{Stated, destination_named, resource_named, with_zone, with_resource, is_same_place, with_limit}
-use Rattle.pit_model.specs.StatedCells.{below_in, name_in, number_in, number_of, origin_in, size_in, tonnes_in, whole_in}
+use Rattle.pit_model.specs.StatedCells.{below_in, integer_in, name_in, number_in, number_of, origin_in, size_in, tonnes_in}
 use Rattle.plan_parts.specs.declared.cone.Cone.{Cone}
 use Rattle.plan_parts.specs.declared.cone.Slope.{Slope}
 use Rattle.plan_parts.specs.declared.formulas.formula.NamedFormula.{NamedFormula}
@@ -45,12 +45,12 @@ grid_record s cells =
       along_z ← size_in (cell_at cells 6)
       if is_some s.grid then Err Twice else Ok (record s { grid = Some (grid_by x y z along_x along_y along_z) })
 
--- `zone, p, q, K`, one slope for all four sides; or p and q of +x, of -x, of +y and of -y, and K: p and q 1 to 1000, K 1 to 20;
--- of at most 64 zones
+-- `zone, p, q, K`, with one slope for all four sides; or p and q for +x, -x, +y and -y, and K. p and q are 1 to 1000, K is 1 to 20,
+-- and there are at most 64 zones
 abbrev pub slope_in : List ℕ → List ℕ → Result Slope PlanFaultKind
 slope_in rise run = do
-  p ← whole_in 1 MAX_SLOPE rise
-  q ← whole_in 1 MAX_SLOPE run
+  p ← integer_in 1 MAX_SLOPE rise
+  q ← integer_in 1 MAX_SLOPE run
   Ok (record { p = p; q = q })
 
 abbrev pub zone_more : Stated → Cone → Result Stated PlanFaultKind
@@ -59,7 +59,7 @@ zone_more s cone = if length s.cones == MAX_ZONES then Err TooMany else Ok (with
 abbrev pub equal_zone : Stated → List (List ℕ) → Result Stated PlanFaultKind
 equal_zone s cells = do
   slope ← slope_in (cell_at cells 1) (cell_at cells 2)
-  k ← whole_in 1 MAX_BENCHES (cell_at cells 3)
+  k ← integer_in 1 MAX_BENCHES (cell_at cells 3)
   zone_more s (record { east = slope; west = slope; north = slope; south = slope; k = k })
 
 abbrev pub sided_zone : Stated → List (List ℕ) → Result Stated PlanFaultKind
@@ -68,7 +68,7 @@ sided_zone s cells = do
   west ← slope_in (cell_at cells 3) (cell_at cells 4)
   north ← slope_in (cell_at cells 5) (cell_at cells 6)
   south ← slope_in (cell_at cells 7) (cell_at cells 8)
-  k ← whole_in 1 MAX_BENCHES (cell_at cells 9)
+  k ← integer_in 1 MAX_BENCHES (cell_at cells 9)
   zone_more s (record { east = east; west = west; north = north; south = south; k = k })
 
 abbrev pub zone_record : Stated → List (List ℕ) → Result Stated PlanFaultKind
@@ -79,7 +79,7 @@ zone_record s cells =
 abbrev pub periods_record : Stated → List (List ℕ) → Result Stated PlanFaultKind
 periods_record s cells =
     if not (length cells == 2) then Err Width else do
-      periods ← whole_in 1 MAX_PERIODS (cell_at cells 1)
+      periods ← integer_in 1 MAX_PERIODS (cell_at cells 1)
       if is_some s.periods then Err Twice else Ok (record s { periods = Some periods })
 
 -- `rate, number`, 0 to 1 with six decimals
@@ -89,7 +89,7 @@ rate_record s cells =
       rate ← number_in 6 (pos 0) MAX_RATE (cell_at cells 1)
       if is_some s.rate then Err Twice else Ok (record s { rate = Some rate })
 
--- `resource, NAME`, and the NAMEs of one or more earlier destinations, none twice; of at most 8
+-- `resource, NAME`, and the NAMEs of one or more earlier destinations, none twice; at most 8 resources
 abbrev pub covers_in : List NamedFormula → List (List ℕ) → Result (List ℕ) PlanFaultKind
 covers_in formulas [] = Ok []
 covers_in formulas (cell ∷ cells) = do
@@ -109,7 +109,7 @@ resource_record s cells =
       covers ← covers_in s.formulas (drop 2 cells)
       resource_more s name covers
 
--- `limit, NAME of an earlier resource, period, letter, v`, and w where the letter is I; the letters as capitals alone
+-- `limit, NAME of an earlier resource, period, letter, v`, and w if the letter is I; letters must be upper case
 abbrev pub is_letter : List (List ℕ) → List ℕ → Bool
 is_letter cells letter = bytes_eq (cell_at cells 3) letter
 
@@ -120,13 +120,13 @@ bound_in cells =
     else (if is_letter cells (codes "G") then (tonnes_in (cell_at cells 4) >>= λ v. Ok (AtLeast v))
     else Err Name))
 
--- one limit of its resource and period, its ends in order
+-- at most one limit for a resource and period, with its ends in order
 abbrev pub limit_more : Stated → Limit → Result Stated PlanFaultKind
 limit_more s l =
     if list_any (λ m. is_same_place l m) s.limits then Err Twice
     else (if is_turned l.bound then Err Order else Ok (record s { limits = with_limit l s.limits }))
 
--- before the record `periods` no period is in range
+-- before the record `periods`, no period is in range
 abbrev pub limit_record : Stated → List (List ℕ) → Result Stated PlanFaultKind
 limit_record s cells =
     if not (length cells == (if is_letter cells (codes "I") then 6 else 5)) then Err Width else do
@@ -135,7 +135,7 @@ limit_record s cells =
       bound ← bound_in cells
       limit_more s (record { resource = resource; period = period; bound = bound })
 
--- by its key
+-- the record, by its key
 abbrev pub key_record : Option PlanKey → Stated → List (List ℕ) → Result Stated PlanFaultKind
 key_record None s cells = Err Key
 key_record (Some key.Name) s cells = name_record s cells
@@ -147,6 +147,6 @@ key_record (Some key.Rate) s cells = rate_record s cells
 key_record (Some key.Resource) s cells = resource_record s cells
 key_record (Some key.Limit) s cells = limit_record s cells
 
--- a record of these cells; one without cells states nothing
+-- a record of these cells; a record without cells states nothing
 abbrev pub record_of : Stated → List (List ℕ) → Result Stated PlanFaultKind
 record_of s cells = if length cells == 0 then Ok s else key_record (key_of (cell_at cells 0)) s cells

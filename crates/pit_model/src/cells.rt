@@ -1,4 +1,4 @@
-//! The cells of a record, counted once.
+//! The cells of a record, with their number.
 
 ghost use Rattle.std.specs.Prelude.{◌≡◌, length};
 ghost use Rattle.csv.specs.Records.{fields_of};
@@ -8,7 +8,7 @@ use csv::ByteRecord;
 use records::cells::{cell_at, cell_count};
 use std::marker::Model;
 
-/// A record and how many cells it has. Contracts see the cells.
+/// A record and the number of its cells. Contracts see the cells.
 #[derive(Drop)]
 pub struct Cells<'a> {
     row: &'a ByteRecord,
@@ -28,7 +28,7 @@ impl<'a> Model for Cells<'a> {
 }
 
 impl<'a> Cells<'a> {
-    /// The cells of a record.
+    /// Counts the cells of a record.
     pub fn of(row: &'a ByteRecord) -> Cells<'a>
         ensures { result ≡ cells_of (fields_of row.now) }
     {
@@ -38,14 +38,14 @@ impl<'a> Cells<'a> {
         }
     }
 
-    /// How many there are, without the empty ones at the end.
+    /// Returns the number of cells, without empty cells at the end.
     pub fn len(&self) -> usize
         ensures { result ≡ length self.now }
     {
         self.count
     }
 
-    /// The cell at a place, trimmed; it is empty where there is none.
+    /// Returns the trimmed cell at a place, or an empty cell if there is none.
     pub fn at(&self, place: usize) -> &[u8]
         ensures { result.now ≡ cell_at self.now place }
     {

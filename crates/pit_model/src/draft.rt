@@ -1,10 +1,10 @@
-//! A plan while its records are read.
+//! A plan whose records are being read.
 
 ghost use Rattle.std.specs.Prelude.{◌≡◌, ◌<◌, ◌≤◌, length, unwrap_or, All, Some};
 ghost use Rattle.csv.specs.Records.{fields_of};
 ghost use Rattle.pit_units.specs.OrMemory.{Gives};
 ghost use Rattle.records.specs.RecordCells.{cells_of};
-ghost use Rattle.plan_parts.specs.PlanKept.{AreTonnes};
+ghost use Rattle.plan_parts.specs.PlanInvariant.{AreTonnes};
 ghost use Rattle.pit_model.specs.PlanRecords.{grid_record, key_record, limit_more, limit_record, name_record, periods_record, rate_record, record_of, resource_more, resource_record};
 ghost use Rattle.pit_model.specs.Planned.{finished};
 ghost use Rattle.pit_model.specs.Stated.{nothing_stated};
@@ -13,7 +13,7 @@ use crate::cells::Cells;
 use crate::grid_cells::{origin_in, size_in};
 use crate::limit_cells::{bound_in, insert_limit, is_limited, limit_width, period_in};
 use crate::named::{covers_in, has_repeat, has_resource, name_in, resource_number};
-use crate::numbers::{number_in, whole_in};
+use crate::numbers::{integer_in, number_in};
 use crate::plan_fault::PlanFaultKind;
 use crate::plan_key::{PlanKey, key_of};
 use csv::ByteRecord;
@@ -34,7 +34,7 @@ mod zones;
 
 pub use formulas::{FormulaKey, formula_key_of};
 
-/// What the records of a plan have said so far.
+/// The parts that the records of a plan stated so far.
 #[derive(Drop)]
 pub struct Draft {
     alloc: Global,
@@ -61,7 +61,7 @@ impl Model for Draft {
 }
 
 impl Draft {
-    /// Before the first record.
+    /// Makes a draft before the first record.
     pub fn new(alloc: Global) -> Draft
         ensures { result ≡ nothing_stated }
     {
@@ -78,7 +78,12 @@ impl Draft {
         }
     }
 
-    /// Adds what the next record says. Where it has a fault, or memory is refused, the draft is of no use.
+    /// Adds what the next record states. After an error the draft is unspecified.
+    ///
+    /// # Errors
+    ///
+    /// - `Fault`: the record is invalid; with the first kind that applies.
+    /// - `OutOfMemory`: memory was refused.
     pub fn admit(&mut self, row: &ByteRecord) -> Result<(), OrMemory<PlanFaultKind>>
         ensures { Gives (λ _. self.new) result
             (record_of self.old (cells_of (fields_of row.now))) }
@@ -109,7 +114,11 @@ impl Draft {
         }
     }
 
-    /// The plan, once all its records are read.
+    /// Returns the plan after its last record.
+    ///
+    /// # Errors
+    ///
+    /// `Missing`: a required part is missing.
     pub fn finish(self) -> Result<Plan, PlanFaultKind>
         ensures { result ≡ finished self }
     {
@@ -251,7 +260,7 @@ impl Draft {
         if cells.len() != 2 {
             return Err(OrMemory::Fault(PlanFaultKind::Width));
         }
-        let periods = whole_in(cells.at(1), 1, MAX_PERIODS)?;
+        let periods = integer_in(cells.at(1), 1, MAX_PERIODS)?;
         if self.periods.is_some() {
             return Err(OrMemory::Fault(PlanFaultKind::Twice));
         }

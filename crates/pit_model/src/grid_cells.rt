@@ -8,7 +8,7 @@ use crate::numbers::number_in;
 use crate::plan_fault::PlanFaultKind;
 use plan_parts::ranges::{MAX_ORIGIN, MAX_SIZE, MIN_ORIGIN};
 
-/// The origin that a cell states in metres, within 10^12 mm of zero.
+/// Returns the origin that a cell states in metres, as millimetres, -10^12 to 10^12. Fails like `number_in`.
 pub fn origin_in(cell: &[u8]) -> Result<i64, PlanFaultKind>
     ensures value { result ≡ origin_in cell.now }
     ensures in_range { IfOk result (λ m. (MIN_ORIGIN ≤ℤ m) × (m ≤ℤ MAX_ORIGIN)) }
@@ -22,7 +22,7 @@ pub fn origin_in(cell: &[u8]) -> Result<i64, PlanFaultKind>
     Ok((metres.millionths() / 1000) as i64)
 }
 
-/// The size of a block that a cell states in metres, 1 to 100,000 mm.
+/// Returns the size of a block that a cell states in metres, as millimetres, 1 to 100,000. Fails like `number_in`.
 pub fn size_in(cell: &[u8]) -> Result<u32, PlanFaultKind>
     ensures value { result ≡ size_in cell.now }
     ensures in_range { IfOk result (λ n. (1 ≤ n) × (n ≤ MAX_SIZE)) }

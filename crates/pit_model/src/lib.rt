@@ -1,4 +1,4 @@
-//! The plan of an open pit mine as its text states it, and the blocks, formulas and other parts that stand in it.
+//! The plan of an open pit mine, read from its text.
 #![tactic(auto)]
 
 mod band_cells;

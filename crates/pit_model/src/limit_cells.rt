@@ -1,8 +1,8 @@
-//! The cells of a `limit` record, and the limits in order.
+//! The cells of a `limit` record, and limits in order.
 
 ghost use Rattle.std.specs.Prelude.{◌≡◌, ◌<◌, ◌≤◌, ◌≤ℤ◌, length, pos, bytes_eq, codes, if◌then◌else◌, position, IfErr, IfOk, IfSome, OnErr, OnOk};
 ghost use Rattle.std.specs.List.{list_any, position_or_len};
-ghost use Rattle.plan_parts.specs.PlanKept.{AreTonnes, stands_before};
+ghost use Rattle.plan_parts.specs.PlanInvariant.{AreTonnes, stands_before};
 ghost use Rattle.pit_model.specs.PlanRecords.{bound_in, is_letter};
 ghost use Rattle.pit_model.specs.StatedCells.{below_in, tonnes_in};
 ghost use Rattle.pit_model.specs.Stated.{is_same_place, with_limit};
@@ -21,14 +21,14 @@ fn is_letter(cell: &[u8], letter: &[u8]) -> bool
     cell == letter
 }
 
-/// How many cells the record has to have: an interval has one more.
+/// Returns the number of cells that the record must have: 6 for an interval, else 5.
 pub fn limit_width(cells: &Cells) -> usize
     ensures { result ≡ (if is_letter cells.now (codes "I") then 6 else 5) }
 {
     if is_letter(cells.at(3), b"I") { 6 } else { 5 }
 }
 
-/// The number of a period, of which there are so many.
+/// Returns the period that a cell states, below the number of periods. Fails like `number_in`.
 pub fn period_in(periods: u8, cell: &[u8]) -> Result<u8, PlanFaultKind>
     ensures value { result ≡ below_in periods cell.now }
     ensures there { IfOk result (λ n. n < periods) }
@@ -44,7 +44,7 @@ fn tonnes_in(cell: &[u8]) -> Result<Dec, PlanFaultKind>
     number_in(cell, 6, 0, MAX_TONNES)
 }
 
-/// What the record asks, by its letter.
+/// Returns the bound of the record, by its letter. Fails with `Name` for another letter, and like `number_in` for its tonnes.
 pub fn bound_in(cells: &Cells) -> Result<Bound, PlanFaultKind>
     ensures value { result ≡ bound_in cells.now }
     ensures in_range { IfOk result AreTonnes }
@@ -69,14 +69,14 @@ fn is_same_place(limit: &Limit, other: &Limit) -> bool
     limit.resource == other.resource && limit.period == other.period
 }
 
-/// Whether the resource has a limit in the period.
+/// Returns whether the resource has a limit in the period.
 pub fn is_limited(limits: &[Limit], limit: &Limit) -> bool
     ensures { result ≡ list_any (λ m. is_same_place limit.now m) limits.now }
 {
     limits.iter().any(|other| is_same_place(limit, other))
 }
 
-// Where a limit stands among others: before the first that it stands before.
+// Returns the index at which a limit is inserted: the index of the first limit that it must precede, or the length.
 #[tactic(auto, using(crate::proofs::Limits::placed))]
 fn index_for(limits: &[Limit], limit: &Limit) -> usize
     ensures place { result ≡ position_or_len (λ m. stands_before limit.now m) limits.now }
@@ -92,7 +92,7 @@ fn first_after(limits: &[Limit], limit: &Limit) -> Option<usize>
     limits.iter().position(|other| limit.stands_before(other))
 }
 
-/// Adds a limit in its place. Where memory is refused the limits are as they were.
+/// Inserts a limit in order, by resource and then period. Fails only if memory is refused; then the limits are unchanged.
 pub fn insert_limit(limits: &mut Vec<Limit>, limit: Limit) -> Result<(), OrMemory<PlanFaultKind>>
     ensures ok { OnOk result (limits.new.items ≡ with_limit limit limits.old.items) }
     ensures err { IfErr result (λ error. error ≡ OrMemory.OutOfMemory) }

@@ -2,7 +2,7 @@
 
 ghost use Rattle.std.specs.Prelude.{◌≡◌, ◌-◌, ◌<◌, ◌≤◌, drop, length, is_some, All, IfOk, IfSome, Some};
 ghost use Rattle.pit_units.specs.OrMemory.{Gives};
-ghost use Rattle.plan_parts.specs.PlanKept.{has_repeat};
+ghost use Rattle.plan_parts.specs.PlanInvariant.{has_repeat};
 ghost use Rattle.pit_model.specs.PlanRecords.{covers_in};
 ghost use Rattle.pit_model.specs.StatedCells.{name_in, number_of};
 ghost use Rattle.pit_model.specs.Stated.{destination_named, resource_named};
@@ -16,7 +16,12 @@ use plan_parts::name::Name;
 use plan_parts::resource::{Covers, Resource};
 use std::alloc::Global;
 
-/// The NAME that a cell spells.
+/// Returns the NAME that a cell states.
+///
+/// # Errors
+///
+/// - `Fault`, with `Name`: the cell is no NAME.
+/// - `OutOfMemory`: memory was refused.
 pub fn name_in(alloc: Global, cell: &[u8]) -> Result<Name, OrMemory<PlanFaultKind>>
     ensures { Gives (λ name. name) result (name_in cell.now) }
 {
@@ -26,21 +31,21 @@ pub fn name_in(alloc: Global, cell: &[u8]) -> Result<Name, OrMemory<PlanFaultKin
     }
 }
 
-/// Whether a destination has this NAME.
+/// Returns whether a destination has this NAME.
 pub fn has_destination(formulas: &[NamedFormula], name: &[u8]) -> bool
     ensures { result ≡ is_some (destination_named formulas.now name.now) }
 {
     formula_place(formulas, name).is_some()
 }
 
-/// Whether a resource has this NAME.
+/// Returns whether a resource has this NAME.
 pub fn has_resource(resources: &[Resource], name: &[u8]) -> bool
     ensures { result ≡ is_some (resource_named resources.now name.now) }
 {
     resource_place(resources, name).is_some()
 }
 
-/// The number of the destination that a cell names.
+/// Returns the number of the destination that a cell names, or `Name` if it names none.
 pub fn destination_number(formulas: &[NamedFormula], cell: &[u8]) -> Result<u8, PlanFaultKind>
     requires { length formulas.now ≤ MAX_DESTINATIONS }
     ensures value { result ≡ number_of (destination_named formulas.now cell.now) }
@@ -56,7 +61,7 @@ fn formula_place(formulas: &[NamedFormula], name: &[u8]) -> Option<usize>
     formulas.iter().position(|formula| formula.name.is(name))
 }
 
-/// The number of the resource that a cell names.
+/// Returns the number of the resource that a cell names, or `Name` if it names none.
 pub fn resource_number(resources: &[Resource], cell: &[u8]) -> Result<u8, PlanFaultKind>
     requires { length resources.now ≤ MAX_RESOURCES }
     ensures value { result ≡ number_of (resource_named resources.now cell.now) }
@@ -72,7 +77,7 @@ fn resource_place(resources: &[Resource], name: &[u8]) -> Option<usize>
     resources.iter().position(|resource| resource.name.is(name))
 }
 
-// The number of what a cell names, if it names something.
+// Returns the number of what a cell names, or `Name` if it names nothing.
 fn number_of(place: Option<usize>) -> Result<u8, PlanFaultKind>
     requires { IfSome place (λ n. n < 256) }
     ensures value { result ≡ number_of place }
@@ -84,7 +89,12 @@ fn number_of(place: Option<usize>) -> Result<u8, PlanFaultKind>
     }
 }
 
-/// The numbers of the destinations that the cells of a `resource` record name, from its third cell on.
+/// Returns the numbers of the destinations that the cells of a `resource` record name, from its third cell on.
+///
+/// # Errors
+///
+/// - `Fault`, with `Name`: a cell names no destination.
+/// - `OutOfMemory`: memory was refused.
 #[tactic(auto, using(crate::proofs::BandSteps::covers_start, crate::proofs::BandSteps::covers_end))]
 pub fn covers_in(
     alloc: Global,
@@ -106,7 +116,7 @@ pub fn covers_in(
     Ok(Covers::new(covers))
 }
 
-/// Whether a number stands twice.
+/// Returns whether a number appears twice.
 pub fn has_repeat(numbers: &[u8]) -> bool
     ensures { result ≡ has_repeat numbers.now }
 {

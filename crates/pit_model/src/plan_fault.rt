@@ -1,15 +1,15 @@
-//! What is wrong with a plan.
+//! Faults of plans.
 
 use pit_units::{DecFault, OrMemory};
 use std::fmt;
 use thiserror::Error;
 
-/// What is wrong with a record of a plan. Where several kinds apply, the first in this order is meant:
+/// What is wrong with a record of a plan. If several kinds apply, the first in this order is reported:
 ///
-/// - `TooMany` of record 10,001, whatever it is;
+/// - `TooMany` for record 10,001, whatever its cells;
 /// - `Key`, `Width`;
-/// - the numbers and names left to right, each by `Number`, `TooFine`, `Range` and `Name`;
-/// - `Twice`, `Order`, and `TooMany` of the others.
+/// - the numbers and names from left to right, each by `Number`, `TooFine`, `Range` and `Name`;
+/// - `Twice`, `Order`, and `TooMany` for other parts.
 #[derive(Clone, Copy, Debug, Error, PartialEq, Eq)]
 pub enum PlanFaultKind {
     /// The record's first cell is no key.
@@ -24,12 +24,12 @@ pub enum PlanFaultKind {
     Range,
     /// A cell is no NAME, names no earlier destination or resource, or is no letter of a limit.
     Name,
-    /// The record stands once before, another destination or resource has the NAME, a resource names a destination twice, or the resource
-    /// has a limit in that period.
+    /// The record may appear once and did so before, another destination or resource has the NAME, a resource names a destination
+    /// twice, or the resource has a limit in that period.
     Twice,
-    /// The starts of bands do not rise, or an interval's ends are the wrong way round.
+    /// The starts of bands do not rise, or an interval's lower end is above its upper end.
     Order,
-    /// One more than there may be: a 65th zone, a 9th destination, a 9th resource, a 17th band, or record 10,001.
+    /// The plan has a part above the maximum: a 65th zone, a 9th destination, a 9th resource, a 17th band, or record 10,001.
     TooMany,
     /// At the end there is no `name`, `grid`, `zone`, destination, `periods` or `rate`.
     Missing,
@@ -59,9 +59,9 @@ impl fmt::Display for PlanFaultKind {
 
 impl From<DecFault> for PlanFaultKind {
     ghost use Rattle.std.specs.Prelude.{◌≡◌, Err};
-    ghost use Rattle.pit_model.specs.StatedCells.{number_said};
+    ghost use Rattle.pit_model.specs.StatedCells.{number_in_cell};
 
-    ghost from_gives = { λ fault kind. Err kind ≡ number_said (Err fault) };
+    ghost from_gives = { λ fault kind. Err kind ≡ number_in_cell (Err fault) };
 
     fn from(fault: DecFault) -> PlanFaultKind {
         match fault {
@@ -72,10 +72,10 @@ impl From<DecFault> for PlanFaultKind {
     }
 }
 
-/// The first faulty record of a plan.
+/// The first invalid record of a plan.
 #[derive(Clone, Copy, Debug, Error, PartialEq, Eq)]
 pub struct PlanFault {
-    /// The number of the record, from 1; where something is missing, one past the last.
+    /// The number of the record, from 1. If a part is missing, the number of records + 1.
     pub row: u32,
     pub kind: PlanFaultKind,
 }

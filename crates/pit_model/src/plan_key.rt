@@ -6,7 +6,7 @@ ghost use Rattle.pit_model.specs.PlanKeys.{key_of};
 use crate::draft::{FormulaKey, formula_key_of};
 use records::cells::is_word;
 
-/// What a record of a plan is about: its first cell.
+/// The subject of a plan's record, which its first cell names.
 #[derive(Clone, Copy, Debug, PartialEq, Eq)]
 pub enum PlanKey {
     Name,
@@ -19,7 +19,7 @@ pub enum PlanKey {
     Limit,
 }
 
-/// The key that a cell is, in upper or lower case.
+/// Returns the key that a cell is, in upper or lower case.
 pub fn key_of(cell: &[u8]) -> Option<PlanKey>
     ensures { result ≡ key_of cell.now }
 {

@@ -1,17 +1,17 @@
-//! Reading a plan.
+//! A reader of plans.
 
 ghost use Rattle.std.specs.Prelude.{◌≡◌, ◌≤◌, IfOk, MatchResult, OnOk};
 ghost use Rattle.csv.specs.Records.{fields_of};
 ghost use Rattle.pit_units.specs.OrMemory.{Gives};
 ghost use Rattle.pit_model.specs.Planned.{at_row, finished, planned, record_at};
-ghost use Rattle.pit_model.specs.SpelledPlan.{SpellPlan};
+ghost use Rattle.pit_model.specs.EncodedPlan.{EncodePlan};
 ghost use Rattle.plan_parts.specs.Plan.{PlanParts};
 ghost use Rattle.pit_units.specs.declared.or_memory.OrMemory.TheVariants.{OutOfMemory};
 ghost use Rattle.records.specs.Records.{records_of};
 ghost use Rattle.plan_parts.specs.declared.ranges.TheConstants.{MAX_PLAN_RECORDS};
 
 use crate::draft::Draft;
-use crate::laws::plans_are_spelled;
+use crate::laws::plans_are_encoded;
 use crate::plan_fault::{PlanFault, PlanFaultKind};
 use csv::ByteRecord;
 use pit_units::OrMemory;
@@ -20,28 +20,28 @@ use plan_parts::ranges::MAX_PLAN_RECORDS;
 use records::RecordReader;
 use std::alloc::Global;
 
-/// The plan that a text states.
+/// Returns the plan that a text states.
 ///
-/// The text has records of comma-separated cells. Spaces and tabs at both ends of a cell do not count, nor do empty
-/// cells at the end of a record. A record without cells is counted and skipped. Every other record begins with a key,
-/// in upper or lower case: `name`, `grid`, `zone`, the word of a formula, `periods`, `rate`, `resource` or `limit`.
+/// The text has records of comma-separated cells. Spaces and tabs at both ends of a cell do not count, nor do empty cells at the
+/// end of a record. A record without cells is counted and skipped. Every other record begins with a key, in upper or lower case:
+/// `name`, `grid`, `zone`, the word of a formula, `periods`, `rate`, `resource` or `limit`.
 ///
 /// # Errors
 ///
-/// - `Fault`: the text states no plan. It has the number and the kind of the first faulty record; where a part is
-///   missing, the number behind the last record.
+/// - `Fault`: the text states no plan. It has the number and the kind of the first invalid record. If a part is missing, the number
+///   is the number of records + 1.
 /// - `OutOfMemory`: memory was refused.
 pub fn read_plan(alloc: Global, text: &[u8]) -> Result<Plan, OrMemory<PlanFault>>
-    ensures found { IfOk result (SpellPlan (records_of text.now)) }
-    ensures only { (p : PlanParts) → SpellPlan (records_of text.now) p
+    ensures found { IfOk result (EncodePlan (records_of text.now)) }
+    ensures only { (p : PlanParts) → EncodePlan (records_of text.now) p
         → MatchResult result (λ plan. plan ≡ p) (λ error. error ≡ OutOfMemory) }
     ensures exact { Gives (λ plan. plan) result (planned text.now) }
 {
-    plans_are_spelled();
+    plans_are_encoded();
     plan_stated(alloc, text)
 }
 
-// The plan that the records of a text state one after the other.
+// Returns the plan that the records of a text state one after the other.
 #[tactic(auto, using(crate::proofs::PlanSteps::all_planned))]
 fn plan_stated(alloc: Global, text: &[u8]) -> Result<Plan, OrMemory<PlanFault>>
     ensures { Gives (λ plan. plan) result (planned text.now) }
@@ -57,7 +57,7 @@ fn plan_stated(alloc: Global, text: &[u8]) -> Result<Plan, OrMemory<PlanFault>>
     finish(draft, number)
 }
 
-// Adds what the record of this number says.
+// Adds what the record with this number states.
 #[tactic(auto, using(crate::proofs::PlanSteps::numbered, crate::proofs::PlanSteps::too_many))]
 fn admit(draft: &mut Draft, row: &ByteRecord, number: u32) -> Result<(), OrMemory<PlanFault>>
     ensures admits { Gives (λ _. draft.new) result
@@ -74,7 +74,7 @@ fn admit(draft: &mut Draft, row: &ByteRecord, number: u32) -> Result<(), OrMemor
     }
 }
 
-// The plan, one past whose last record this number is.
+// Returns the plan; `number` is the number of records + 1.
 fn finish(draft: Draft, number: u32) -> Result<Plan, OrMemory<PlanFault>>
     ensures { Gives (λ plan. plan) result (at_row number (finished draft)) }
 {

@@ -1,4 +1,4 @@
--- A number that needs few decimals is a multiple of the last that it may need.
+-- A number with few decimals is a multiple of the last one allowed.
 use Rattle.std.specs.Prelude.{◌≡◌, ℕ, ◌+◌, ◌*◌, ◌-◌, ◌^◌, ◌%◌, ◌≤◌, true, List, ◌++◌, length, take, drop, replicate, ◌==◌, ℤ, unsigned_abs}
 use Rattle.std.proofs.Common.{arith, refl, ap, sym, ◌∙◌}
 use Rattle.std.proofs.Math.Seq.{take-add}
@@ -10,7 +10,7 @@ use Rattle.pit_units.specs.StandsFor.{StandsFor}
 use Rattle.pit_units.proofs.Standing.{scale_positive, size_stands}
 use Rattle.pit_units.proofs.Value.{pass_drop_append, pass_drop_later, pass_parts, value_append, value_zeros}
 
--- the six decimals, where those behind a place are zeros
+-- the six decimals, if those after a position are zeros
 six_cut : (fraction : List ℕ) (max : ℕ) → max ≤ 6 → all_zeros (drop max fraction) ≡ true
     → digits_value 10 (six_decimals fraction) ≡ digits_value 10 (take max (fraction ++ replicate 6 48)) * 10 ^ (6 - max)
 six_cut fraction max few fine =
@@ -31,7 +31,7 @@ six_cut fraction max few fine =
 product : (whole cut scale step : ℕ) → whole * (scale * step) + cut * step ≡ (whole * scale + cut) * step + 0
 product whole cut scale step = omega arith
 
--- what stands with at most `max` decimals is a multiple of the last of them
+-- a number with at most `max` decimals is a multiple of a unit of the last of them
 pub stands_multiple : (max : ℕ) (text : List ℕ) (m : ℤ) → max ≤ 6 → StandsFor max text m → unsigned_abs m % 10 ^ (6 - max) ≡ 0
 stands_multiple max text m few s =
     let size = size_stands s.whole s.fraction (unsigned_abs m) (pass_drop_later (λ c. c == 48) s.fraction max 6 few s.fine) s.value in

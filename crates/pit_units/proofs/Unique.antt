@@ -1,4 +1,4 @@
--- No other text than the shortest is as short.
+-- No text but the shortest is as short.
 use Rattle.std.specs.Prelude.{◌≡◌, ◌≢◌, ◌↔◌, ℕ, ◌+◌, ◌-◌, ◌/◌, ◌%◌, ◌^◌, ◌<◌, ◌≤◌, true, ◌⊎◌, List, [], ◌∷◌, ◌++◌, length, get_or, take, drop, replicate, ◌==◌, ℤ, pos, negsuc, unsigned_abs, int_lt, nat_lt, ◌<ℤ◌}
 use Rattle.std.proofs.Common.{arith, refl, ap, sym, ◌∙◌, inl, inr}
 use Rattle.std.proofs.Math.Seq.{take-append-add}
@@ -17,19 +17,19 @@ use Rattle.std.specs.Str.Parse.{AllDigits, digits_value, starts_with_minus}
 use Rattle.pit_units.specs.Decimal.{all_digits, all_zeros, six_decimals, size_of, signed, six_digits, without_end_zeros, fraction_text, shortest}
 use Rattle.pit_units.specs.StandsFor.{StandsFor}
 use Rattle.pit_units.specs.Shortest.{IsShortest}
-use Rattle.pit_units.proofs.Spelling.{reads}
+use Rattle.pit_units.proofs.Encoding.{reads}
 use Rattle.pit_units.proofs.Standing.{picked, size_of_signed, stands_read}
 use Rattle.pit_units.proofs.Text.{not_below, shortest_is}
 use Rattle.pit_units.proofs.Value.{digits_all, pass_append, same_digits, zeros_pass}
 use Rattle.pit_units.proofs.Written.{decimals, point_part, six_pass, six_value}
 
--- digits with no leading zero are what is written of their value
+-- digits without a leading zero are the text of their value
 whole_unique : (ds : List ℕ) → all_digits ds ≡ true → 0 < length ds → (get_or ds 0 0 ≡ 48 → length ds ≡ 1) → digits_value 10 ds < 2 ^ 64
     → decimal (digits_value 10 ds) ≡ ds
 whole_unique ds digits some leading small =
     decimal-digits_value (numerals_by_value (AllDigits 10) tells_digits) ds (digits_all ds digits) some leading small
 
--- a fraction with no zero at its end has no more decimals than are allowed
+-- a fraction without a zero at its end has no more decimals than allowed
 fraction_short : (fraction : List ℕ) → all_zeros (drop 6 fraction) ≡ true
     → (0 < length fraction → get_or fraction (length fraction - 1) 0 ≢ 48) → (6 < length fraction) ⊎ (length fraction ≤ 6)
     → length fraction ≤ 6
@@ -41,14 +41,14 @@ fraction_short fraction fine ends (inl long) =
     let place : 6 + (length fraction - 7) ≡ length fraction - 1 = omega arith in
     absurd (ends (omega arith) (ap (λ k. get_or fraction k 0) (sym place) ∙ sym (get_or-drop 6 fraction (length fraction - 7) 0) ∙ last))
 
--- six digits are those of their value
+-- six digits are the digits of their value
 six_unique : (ds : List ℕ) → length ds ≡ 6 → AllDigits 10 ds → six_digits (digits_value 10 ds) ≡ ds
 six_unique ds six digits =
     let n = digits_value 10 ds in
     let small : n < 10 ^ 6 = rw six at (digits_value-lt 10 ds digits) in
     same_digits (six_digits n) ds (digits_all (six_digits n) (six_pass n)) digits (sym six) (six_value n small)
 
--- cut off again what was put behind
+-- removes the zeros that were appended
 cut_again : (fraction : List ℕ) → length fraction ≤ 6 → (0 < length fraction → get_or fraction (length fraction - 1) 0 ≢ 48)
     → without_end_zeros (fraction ++ replicate (6 - length fraction) 48) ≡ fraction
 cut_again fraction short ends =
@@ -91,7 +91,7 @@ six_small fraction digits short =
     let below = digits_value-lt 10 (six_decimals fraction) six.1 in
     rw six.0 at below
 
--- a fraction with no zero at its end is the one that is written of its value
+-- a fraction without a zero at its end is the text of its value
 fraction_unique : (fraction : List ℕ) → all_digits fraction ≡ true → length fraction ≤ 6
     → (0 < length fraction → get_or fraction (length fraction - 1) 0 ≢ 48) → decimals (digits_value 10 (six_decimals fraction)) ≡ fraction
 fraction_unique fraction digits short ends =
@@ -116,26 +116,26 @@ tail_unique tail fraction n value same (inl none) bare (inr written) =
     let zero_value : n ≡ 0 = value ∙ ap (λ xs. digits_value 10 (six_decimals xs)) none.1 in
     ap fraction_text zero_value ∙ sym none.0
 
--- a text that stands for z and has nothing needless is the one that is written
+-- a text that denotes z and has no needless bytes is the written one
 pub only_shortest : (z : ℤ) (text : List ℕ) → StandsFor 6 text z → IsShortest z text → text ≡ shortest z
 only_shortest z text stands s =
     let size = size_of s.whole s.fraction in
-    let read = sym (reads 6 text s.sign s.whole s.tail s.fraction s.spelled) ∙ stands_read 6 text z (omega arith) stands in
-    let told = picked true (all_zeros (drop 6 s.fraction)) (nat_lt (10 ^ 24) size) (signed (starts_with_minus s.sign) size) z read in
-    let away : unsigned_abs z ≡ size = ap unsigned_abs (sym told.3) ∙ size_of_signed (starts_with_minus s.sign) size in
+    let read = sym (reads 6 text s.sign s.whole s.tail s.fraction s.encoded) ∙ stands_read 6 text z (omega arith) stands in
+    let reported = picked true (all_zeros (drop 6 s.fraction)) (nat_lt (10 ^ 24) size) (signed (starts_with_minus s.sign) size) z read in
+    let away : unsigned_abs z ≡ size = ap unsigned_abs (sym reported.3) ∙ size_of_signed (starts_with_minus s.sign) size in
     let in_range = stands.in_range in
-    let short = fraction_short s.fraction told.1 s.no_end_zero (cases_lt _ _) in
+    let short = fraction_short s.fraction reported.1 s.no_end_zero (cases_lt _ _) in
     let rest = digits_value 10 (six_decimals s.fraction) in
-    let small = six_small s.fraction s.spelled.fraction_digits short in
+    let small = six_small s.fraction s.encoded.fraction_digits short in
     let whole_value : unsigned_abs z / 10 ^ 6 ≡ digits_value 10 s.whole = omega arith in
     let rest_value : unsigned_abs z % 10 ^ 6 ≡ rest = omega arith in
     let whole : decimal (unsigned_abs z / 10 ^ 6) ≡ s.whole =
-    ap decimal whole_value ∙ whole_unique s.whole s.spelled.whole_digits s.digit_before s.no_leading_zero (omega arith) in
-    let fraction = fraction_unique s.fraction s.spelled.fraction_digits short s.no_end_zero in
+    ap decimal whole_value ∙ whole_unique s.whole s.encoded.whole_digits s.digit_before s.no_leading_zero (omega arith) in
+    let fraction = fraction_unique s.fraction s.encoded.fraction_digits short s.no_end_zero in
     let tail : fraction_text (unsigned_abs z % 10 ^ 6) ≡ s.tail =
-    ap fraction_text rest_value ∙ tail_unique s.tail s.fraction rest refl fraction s.spelled.point s.no_bare_point (point_part rest) in
-    let sign = sign_unique z s.sign s.spelled.signs s.no_plus s.minus in
-    s.spelled.joined
+    ap fraction_text rest_value ∙ tail_unique s.tail s.fraction rest refl fraction s.encoded.point s.no_bare_point (point_part rest) in
+    let sign = sign_unique z s.sign s.encoded.signs s.no_plus s.minus in
+    s.encoded.joined
     ∙ ap (λ xs. xs ++ (s.whole ++ s.tail)) (sym sign)
     ∙ ap (λ xs. sign_text (int_lt z (pos 0)) ++ (xs ++ s.tail)) (sym whole)
     ∙ ap (λ xs. sign_text (int_lt z (pos 0)) ++ (decimal (unsigned_abs z / 10 ^ 6) ++ xs)) (sym tail)

@@ -14,9 +14,9 @@ use Rattle.std.specs.Char.{digit_value, is_ascii_digit}
 use Rattle.std.specs.List.{list_all}
 use Rattle.std.specs.Str.Parse.{AllDigits, digits_value, digits_value_after}
 use Rattle.pit_units.specs.Decimal.{all_digits, all_zeros, six_decimals, size_of}
-use Rattle.pit_units.proofs.Spelling.{digit_range}
+use Rattle.pit_units.proofs.Encoding.{digit_range}
 
--- digits behind a number
+-- digits after a number
 after_is : (n : ℕ) (ds : List ℕ) → digits_value_after 10 n ds ≡ n * 10 ^ length ds + digits_value_after 10 0 ds
 after_is n [] = omega (arith, ap (λ x. n * x) (pow-zero 10))
 after_is n (c ∷ cs) =
@@ -26,11 +26,11 @@ after_append : (n : ℕ) (xs ys : List ℕ) → digits_value_after 10 n (xs ++ y
 after_append n [] ys = refl
 after_append n (c ∷ cs) ys = after_append (n * 10 + digit_value c) cs ys
 
--- digits behind digits
+-- digits after digits
 pub value_append : (xs ys : List ℕ) → digits_value 10 (xs ++ ys) ≡ digits_value 10 xs * 10 ^ length ys + digits_value 10 ys
 value_append xs ys = after_append 0 xs ys ∙ after_is (digits_value 10 xs) ys
 
--- digits, in std's words
+-- digits by std's definition
 pub digits_all : (ds : List ℕ) → all_digits ds ≡ true → AllDigits 10 ds
 digits_all [] h = tt
 digits_all (c ∷ cs) h =
@@ -38,7 +38,7 @@ digits_all (c ∷ cs) h =
     let range = digit_range c parts.0 in
     (omega (arith, range, digit_value_digit c range), digits_all cs parts.1)
 
--- digits of one length that make one number are the same
+-- digits of equal length with the same number are equal
 pub same_digits : (xs ys : List ℕ) → AllDigits 10 xs → AllDigits 10 ys → length xs ≡ length ys → digits_value 10 xs ≡ digits_value 10 ys
     → xs ≡ ys
 same_digits [] [] in_xs in_ys long same = refl
@@ -71,7 +71,7 @@ pub zeros_pass : (p : ℕ → Bool) (n : ℕ) → p 48 ≡ true → list_all p (
 zeros_pass p zero h = refl
 zeros_pass p (suc n) h = rw h (zeros_pass p n h)
 
--- digits that make 0 are zeros
+-- digits with the number 0 are zeros
 pub zeros_alone : (zs : List ℕ) → AllDigits 10 zs → digits_value 10 zs ≡ 0 → all_zeros zs ≡ true
 zeros_alone zs digits none =
     let zeros = replicate (length zs) 48 in
@@ -80,7 +80,7 @@ zeros_alone zs digits none =
     (sym (length-replicate (length zs) 48)) (none ∙ sym (value_zeros zeros pass)) in
     ap all_zeros same ∙ pass
 
--- where a list passes, so do its parts
+-- if a list passes, so do its parts
 pub pass_parts : (p : ℕ → Bool) (xs : List ℕ) (n : ℕ) → list_all p xs ≡ true → (list_all p (take n xs) ≡ true) × (list_all p (drop n xs) ≡ true)
 pass_parts p xs n h =
     and_parts (list_all p (take n xs)) (list_all p (drop n xs))
@@ -89,13 +89,13 @@ pass_parts p xs n h =
 pub pass_append : (p : ℕ → Bool) (xs ys : List ℕ) → list_all p xs ≡ true → list_all p ys ≡ true → list_all p (xs ++ ys) ≡ true
 pass_append p xs ys h g = rw (list_all-append p xs ys, h) g
 
--- what is passed behind a place is passed behind a later one
+-- bytes that pass after a position pass after a later one
 pub pass_drop_later : (p : ℕ → Bool) (xs : List ℕ) (n m : ℕ) → n ≤ m → list_all p (drop n xs) ≡ true → list_all p (drop m xs) ≡ true
 pass_drop_later p xs n m later h =
     let place : m ≡ n + (m - n) = omega arith in
     rw (place, ← drop-drop (m - n) n xs) (pass_parts p (drop n xs) (m - n) h).1
 
--- what is passed behind a place, in a longer list
+-- bytes that pass after a position, in a longer list
 pub pass_drop_append : (p : ℕ → Bool) (xs ys : List ℕ) (n : ℕ) → list_all p (drop n xs) ≡ true → list_all p ys ≡ true
     → list_all p (drop n (xs ++ ys)) ≡ true
 pass_drop_append p xs ys zero h g = pass_append p xs ys h g
@@ -105,7 +105,7 @@ pass_drop_append p (c ∷ cs) ys (suc n) h g = pass_drop_append p cs ys n h g
 pub size_product : (whole decimals scale : ℕ) → (whole * 10 ^ 6 + decimals) * scale ≡ whole * scale * 10 ^ 6 + decimals * scale
 size_product whole decimals scale = omega arith
 
--- digits and the six decimals that count make the number that all digits make
+-- digits and the six decimals that count have the same number as all digits
 pub size_scaled : (whole fraction : List ℕ) → all_zeros (drop 6 fraction) ≡ true
     → size_of whole fraction * 10 ^ length fraction ≡ digits_value 10 (whole ++ fraction) * 10 ^ 6
 size_scaled whole fraction fine =

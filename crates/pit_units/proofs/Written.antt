@@ -1,4 +1,4 @@
--- How the shortest text is spelled, and what is read from it.
+-- The parts of the shortest text, and the number read from it.
 use Rattle.std.specs.Prelude.{◌≡◌, ◌≢◌, ℕ, zero, suc, ◌+◌, ◌-◌, ◌*◌, ◌/◌, ◌%◌, ◌^◌, ◌<◌, ◌≤◌, Bool, true, false, ◌⊎◌, List, [], ◌∷◌, ◌++◌, length, get_or, take, drop, reverse, replicate, Ok, ◌==◌, ℤ, pos, negsuc, unsigned_abs, int_lt, ◌<ℤ◌, ◌↔◌}
 use Rattle.std.proofs.Common.{arith, refl, ap, sym, ◌∙◌, inl, inr, append-nil}
 use Rattle.std.proofs.lemmas.Bool.{cases_lt}
@@ -18,9 +18,9 @@ use Rattle.std.specs.Fmt.{decimal, sign_text}
 use Rattle.std.specs.List.{All, list_all, suffix_len}
 use Rattle.std.specs.Str.Parse.{AllDigits, digits_value, starts_with_minus}
 use Rattle.pit_units.specs.Decimal.{all_digits, all_zeros, six_decimals, size_of, signed, decimal_of, six_digits, without_end_zeros, fraction_text, size_text, shortest}
-use Rattle.pit_units.specs.StandsFor.{IsSpelled}
+use Rattle.pit_units.specs.StandsFor.{IsDecimalText}
 use Rattle.pit_units.specs.Shortest.{IsPlain, IsPlainByte, IsShortest, longest}
-use Rattle.pit_units.proofs.Spelling.{digit_range, reads}
+use Rattle.pit_units.proofs.Encoding.{digit_range, reads}
 use Rattle.pit_units.proofs.Value.{digits_all, pass_parts, value_append, zeros_alone}
 use Rattle.pit_units.proofs.Text.{not_below, shortest_is}
 
@@ -31,7 +31,7 @@ digits_pass (c ∷ cs) h =
     let range = digit_from_value c h.0 in
     rw (le-leb 48 c range.0, le-leb c 57 range.1) (digits_pass cs h.1)
 
--- what is passed behind a place is passed behind it in a part
+-- bytes that pass after a position pass after it in a part
 pass_drop_take : (p : ℕ → Bool) (xs : List ℕ) (from n : ℕ) → list_all p (drop from xs) ≡ true → list_all p (drop from (take n xs)) ≡ true
 pass_drop_take p xs zero n h = (pass_parts p xs n h).0
 pass_drop_take p [] (suc from) zero h = refl
@@ -47,7 +47,7 @@ six_pass n = simp digit_passes
 
 -- the zeros at the end
 ends_in_zeros : (xs : List ℕ) (i : ℕ) → i < length xs → length xs ≤ i + suffix_len (λ c. c == 48) xs → get_or xs i 0 ≡ 48
-ends_in_zeros xs i within behind =
+ends_in_zeros xs i within following =
     let same = get_or-reverse xs (length xs - 1 - i) 0 (omega arith) in
     let zero_there : get_or (reverse xs) (length xs - 1 - i) 0 ≡ 48 =
     eqb-true _ 48 (prefix_len_passes (λ c. c == 48) (reverse xs) (length xs - 1 - i) 0 (omega arith)) in
@@ -68,7 +68,7 @@ padded_place xs i within (inr cut) =
     ∙ get_or-replicate (length xs) (i - length (without_end_zeros xs)) 48 0 (omega arith)
     ∙ sym (ends_in_zeros xs i within (omega (arith, kept_length xs)))
 
--- the digits again, with zeros in the place of those that were cut off
+-- the digits again, with zeros for the removed ones
 padded_again : (xs : List ℕ) → take (length xs) (without_end_zeros xs ++ replicate (length xs) 48) ≡ xs
 padded_again xs =
     let padded = without_end_zeros xs ++ replicate (length xs) 48 in
@@ -80,7 +80,7 @@ padded_again xs =
     let inside : i < length xs = omega arith in
     get_or-take (length xs) padded i 0 inside ∙ padded_place xs i inside (cases_lt i (length (without_end_zeros xs))))
 
--- the last of what is left is no zero
+-- the last of the remaining digits is not zero
 last_is_no_zero : (xs : List ℕ) → 0 < length (without_end_zeros xs)
     → get_or (without_end_zeros xs) (length (without_end_zeros xs) - 1) 0 ≢ 48
 last_is_no_zero xs some last =
@@ -98,21 +98,21 @@ digit_is n = omega (arith, digit_value_digit (48 + n % 10) (omega arith, omega a
 pub six_value : (n : ℕ) → n < 10 ^ 6 → digits_value 10 (six_digits n) ≡ n
 six_value n small = simp digit_is (omega arith)
 
--- past the decimals that a multiple needs there are zeros
+-- after the decimals that a multiple needs there are zeros
 fine_places : (n max : ℕ) → n < 10 ^ 6 → n % 10 ^ (6 - max) ≡ 0 → all_zeros (drop max (six_digits n)) ≡ true
 fine_places n max small multiple =
-    let front = take max (six_digits n) in
+    let prefix = take max (six_digits n) in
     let rest = drop max (six_digits n) in
     let long : length rest ≡ 6 - max = length-drop max (six_digits n) in
     let digits = digits_all rest (pass_parts is_ascii_digit (six_digits n) max (six_pass n)).1 in
     let low : digits_value 10 rest < 10 ^ (6 - max) = rw long at (digits_value-lt 10 rest digits) in
-    let sum : digits_value 10 (front ++ rest) ≡ digits_value 10 front * 10 ^ (6 - max) + digits_value 10 rest = rw long at (value_append front rest) in
-    let split : n ≡ digits_value 10 front * 10 ^ (6 - max) + digits_value 10 rest =
+    let sum : digits_value 10 (prefix ++ rest) ≡ digits_value 10 prefix * 10 ^ (6 - max) + digits_value 10 rest = rw long at (value_append prefix rest) in
+    let split : n ≡ digits_value 10 prefix * 10 ^ (6 - max) + digits_value 10 rest =
     sym (six_value n small) ∙ ap (digits_value 10) (sym (take-append-drop max (six_digits n))) ∙ sum in
     zeros_alone rest digits
-    (sym (mod-mul-add (digits_value 10 front) (10 ^ (6 - max)) (digits_value 10 rest) low) ∙ ap (λ k. k % 10 ^ (6 - max)) (sym split) ∙ multiple)
+    (sym (mod-mul-add (digits_value 10 prefix) (10 ^ (6 - max)) (digits_value 10 rest) low) ∙ ap (λ k. k % 10 ^ (6 - max)) (sym split) ∙ multiple)
 
--- the decimals that the shortest text of n millionths has
+-- the decimals of the shortest text of n millionths
 abbrev pub decimals : ℕ → List ℕ
 decimals n = without_end_zeros (six_digits n)
 
@@ -131,11 +131,11 @@ pub side_of_sign : (below : Bool) → starts_with_minus (sign_text below) ≡ be
 side_of_sign true = refl
 side_of_sign false = refl
 
--- how the shortest text is spelled
-pub written_spelled : (below : Bool) (n : ℕ) → n ≤ 10 ^ 24
-    → IsSpelled (sign_text below ++ size_text n) (sign_text below) (decimal (n / 10 ^ 6))
+-- the parts of the shortest text
+pub written_encoded : (below : Bool) (n : ℕ) → n ≤ 10 ^ 24
+    → IsDecimalText (sign_text below ++ size_text n) (sign_text below) (decimal (n / 10 ^ 6))
     (fraction_text (n % 10 ^ 6)) (decimals (n % 10 ^ 6))
-written_spelled below n most =
+written_encoded below n most =
     let numeral = decimal_is_IsNumeral_wide (n / 10 ^ 6) (omega arith) in
     record {
       joined = refl;
@@ -146,7 +146,7 @@ written_spelled below n most =
       some_digit = omega (arith, numeral.0.0);
     }
 
--- what its parts make
+-- the number of its parts
 size_again : (n : ℕ) → n ≤ 10 ^ 24 → size_of (decimal (n / 10 ^ 6)) (decimals (n % 10 ^ 6)) ≡ n
 size_again n most =
     let numeral = decimal_is_IsNumeral_wide (n / 10 ^ 6) (omega arith) in
@@ -161,21 +161,21 @@ low_multiple n max few multiple =
     let power : 10 ^ 6 ≡ 10 ^ (6 - max) * 10 ^ max = ap (λ n. 10 ^ n) whole ∙ pow-add 10 max (6 - max) ∙ mul_comm (10 ^ max) (10 ^ (6 - max)) in
     rw power (mod-mod_of_dvd (10 ^ (6 - max)) n (dvd-mul_right (10 ^ (6 - max)) (10 ^ max)) ∙ multiple)
 
--- what is read from a written text
+-- the number read from a written text
 written_read : (max : ℕ) (below : Bool) (n : ℕ) → n ≤ 10 ^ 24 → n % 10 ^ 6 % 10 ^ (6 - max) ≡ 0
     → decimal_of max (sign_text below ++ size_text n) ≡ Ok (signed below n)
 written_read max below n most multiple =
     let fine : all_zeros (drop max (decimals (n % 10 ^ 6))) ≡ true =
     pass_drop_take (λ c. c == 48) (six_digits (n % 10 ^ 6)) max _ (fine_places (n % 10 ^ 6) max (omega arith) multiple) in
     reads max (sign_text below ++ size_text n) (sign_text below) (decimal (n / 10 ^ 6)) (fraction_text (n % 10 ^ 6))
-    (decimals (n % 10 ^ 6)) (written_spelled below n most)
+    (decimals (n % 10 ^ 6)) (written_encoded below n most)
     ∙ rw (fine, size_again n most, side_of_sign below, le-ltb (10 ^ 24) n most)
 
 signed_again : (z : ℤ) → signed (int_lt z (pos 0)) (unsigned_abs z) ≡ z
 signed_again (pos n) = rw (not_below n)
 signed_again (negsuc n) = refl
 
--- a number of so few decimals is read again from its shortest text
+-- a number with few decimals is read again from its shortest text
 pub shortest_read : (max : ℕ) (z : ℤ) → max ≤ 6 → unsigned_abs z ≤ 10 ^ 24 → unsigned_abs z % 10 ^ (6 - max) ≡ 0
     → decimal_of max (shortest z) ≡ Ok z
 shortest_read max z few most multiple =
@@ -183,12 +183,12 @@ shortest_read max z few most multiple =
     ∙ written_read max (int_lt z (pos 0)) (unsigned_abs z) most (low_multiple (unsigned_abs z) max few multiple)
     ∙ ap Ok (signed_again z)
 
--- the whole digits have no leading zero beside others
+-- the digits of the integer part have no leading zero next to others
 whole_starts : (n : ℕ) → n < 2 ^ 64 → get_or (decimal n) 0 0 ≡ 48 → length (decimal n) ≡ 1
 whole_starts zero small zero_first = ap length (decimal_digit 0 (omega arith))
 whole_starts (suc n) small zero_first = absurd (omega (arith, first_decimal (suc n) (omega arith) small))
 
--- a minus stands below zero alone
+-- only numbers below zero have a minus
 minus_below : (z : ℤ) → (sign_text (int_lt z (pos 0)) ≡ 45 ∷ []) ↔ (z <ℤ pos 0)
 minus_below (pos n) = (
   λ e. let none = rw (not_below n) at e in let first : ◌≡◌ {A = ℕ} 0 45 =
@@ -220,7 +220,7 @@ shortest_shape z most =
       whole = decimal (n / 10 ^ 6);
       tail = fraction_text (n % 10 ^ 6);
       fraction = decimals (n % 10 ^ 6);
-      spelled = written_spelled below n most;
+      encoded = written_encoded below n most;
       no_plus = no_plus below;
       minus = minus_below z;
       digit_before = (decimal_is_IsNumeral_wide (n / 10 ^ 6) (omega arith)).0.0;
@@ -253,7 +253,7 @@ sign_length : (below : Bool) → length (sign_text below) ≤ 1
 sign_length true = omega arith
 sign_length false = omega arith
 
--- the whole part has 18 digits, or 19 and no decimals behind it
+-- the integer part has 18 digits, or 19 and no decimals after it
 size_short : (n : ℕ) → n ≤ 10 ^ 24 → length (fraction_text (n % 10 ^ 6)) ≤ 7 → length (size_text n) ≤ 25
 size_short n most few = by (cases_lt (n / 10 ^ 6) (10 ^ 18))
   where
@@ -285,7 +285,7 @@ shortest_plain z most =
     } in
     rw (shortest_is z below n refl refl) plain
 
--- a whole number is written as its digits
+-- an integer is written as its digits
 pub whole_written : (k : ℕ) → shortest (pos (k * 10 ^ 6)) ≡ decimal k
 whole_written k =
     let whole : k * 10 ^ 6 / 10 ^ 6 ≡ k = omega arith in
@@ -295,7 +295,7 @@ whole_written k =
 pub whole_read : (k : ℕ) → k ≤ 10 ^ 18 → decimal_of 0 (decimal k) ≡ Ok (pos (k * 10 ^ 6))
 whole_read k most = ap (decimal_of 0) (sym (whole_written k)) ∙ shortest_read 0 (pos (k * 10 ^ 6)) (omega arith) (omega arith) (omega arith)
 
--- 18 digits are written of this number
+-- this number has 18 digits
 eighteen : length (decimal 999999999999999999) ≡ 18
 eighteen = by (cases_lt (length (decimal 999999999999999999)) 18)
   where

@@ -1,4 +1,4 @@
--- Which decimals there are.
+-- The range of decimals.
 use Rattle.std.specs.Prelude.{◌≤◌, ℤ, unsigned_abs}
 use Rattle.pit_units.specs.declared.decimal.TheConstants.{MAX_MILLIONTHS}
 

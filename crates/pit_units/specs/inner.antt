@@ -1,2 +1,2 @@
 pub mod DecFields
-pub mod FrontParts
+pub mod PrefixParts

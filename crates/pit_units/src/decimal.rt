@@ -1,4 +1,4 @@
-//! A decimal number.
+//! Decimal numbers.
 
 ghost use Rattle.std.specs.Prelude.{◌≡◌, ◌/◌, ◌^◌, ◌↔◌, IsSome, IfSome, unsigned_abs};
 ghost use Rattle.pit_units.specs.DecimalRange.{IsInDecimalRange};
@@ -6,19 +6,19 @@ ghost use Rattle.pit_units.specs.DecimalRange.{IsInDecimalRange};
 use std::fmt;
 use std::marker::Model;
 
-/// How many millionths one is.
+/// The number of millionths in 1.
 pub const MILLIONTHS: i128 = 1_000_000;
 
-/// The most millionths that a decimal counts, either side of zero: 10^18 as a number.
+/// The largest number of millionths of a decimal, either side of zero: 10^18 as a number.
 pub const MAX_MILLIONTHS: u128 = 1_000_000_000_000_000_000_000_000;
 
-// How many values a half has: 2^64.
+// The number of values of a half: 2^64.
 const HALF: u128 = 18_446_744_073_709_551_616;
 
 /// A decimal number, counted in millionths: from -10^24 to 10^24 of them, which is 10^18 either side of zero.
 #[derive(Clone, Copy)]
 pub struct Dec {
-    // The millionths and 10^24 more, as two digits of 64 bits: these may stand at places of 8 bytes, where one number of 128 bits may not.
+    // The millionths plus 10^24, as two digits of 64 bits: these may be aligned to 8 bytes, and one number of 128 bits may not.
     high: u64,
     low: u64,
 }
@@ -40,7 +40,7 @@ impl Model for Dec {
 }
 
 impl Dec {
-    /// The decimal of so many millionths, or `None` where they are more than 10^24 either side of zero.
+    /// Returns the decimal with this number of millionths, or `None` if it is more than 10^24 either side of zero.
     pub fn new(millionths: i128) -> Option<Dec>
         ensures valid { IsSome result ↔ IsInDecimalRange millionths }
         ensures value { IfSome result (λ dec. dec ≡ millionths) }
@@ -55,7 +55,7 @@ impl Dec {
         })
     }
 
-    /// How many millionths the decimal counts: at most 10^24 either side of zero.
+    /// Returns the number of millionths: at most 10^24 either side of zero.
     pub fn millionths(self) -> i128
         ensures value { result ≡ self }
         ensures in_range { IsInDecimalRange result }
@@ -64,7 +64,7 @@ impl Dec {
         raised as i128 - MAX_MILLIONTHS as i128
     }
 
-    /// The whole number in the decimal, without its sign and its decimals.
+    /// Returns the integer part of the decimal, without its sign and its decimals.
     pub fn whole(self) -> u64
         ensures { result ≡ unsigned_abs self / 10 ^ 6 }
     {
@@ -72,7 +72,7 @@ impl Dec {
     }
 }
 
-// The number, and not the halves that keep it.
+// Shows the number instead of its halves.
 impl fmt::Debug for Dec {
     ghost use Rattle.std.specs.Prelude.{◌++◌, Some, codes};
     ghost use Rattle.std.specs.Fmt.{signed_decimal};

@@ -1,15 +1,14 @@
-//! Why a text states no decimal.
+//! The reason why a text is not a decimal.
 
 use thiserror::Error;
 
-/// Why a text states no decimal that is allowed. Of several reasons the first one here is meant.
+/// The reason why a text is not an allowed decimal. If several apply, the first one here is returned.
 #[derive(Clone, Copy, Debug, Error, PartialEq, Eq)]
 pub enum DecFault {
-    /// The text is no decimal: digits with at most one sign before them and one point before, among or
-    /// behind them.
+    /// The text is not a decimal: digits with at most one sign before them and one point before, among or after them.
     #[error("no decimal number")]
     Number,
-    /// A digit other than zero stands past the decimals that are allowed.
+    /// A digit after the allowed decimals is not zero.
     #[error("too many decimals")]
     TooFine,
     /// The number is above 10^18 or below -10^18.

@@ -1,17 +1,18 @@
-//! Decimals: numbers counted in millionths, read from a text and written as the shortest text.
+//! Decimals: numbers counted in millionths, read from a text and written as their shortest text.
 #![tactic(auto)]
 
 mod decimal;
 mod fault;
-mod front;
 pub mod laws;
 mod or_memory;
+mod prefix;
 mod reading;
+pub mod scratch;
 mod writing;
 
 pub use decimal::{Dec, MILLIONTHS};
 pub use fault::DecFault;
-pub use front::{front_dec, front_whole};
 pub use or_memory::OrMemory;
+pub use prefix::{leading_dec, leading_integer};
 pub use reading::{after, parse_dec, parse_within, usual_dec};
-pub use writing::{append_front, put_dec, write_sign};
+pub use writing::put_dec;

@@ -1,4 +1,4 @@
-//! What is wrong, or that memory was refused.
+//! An error, or out of memory.
 
 ghost use Rattle.std.specs.Prelude.{◌≡◌};
 ghost use Rattle.pit_units.specs.declared.or_memory.OrMemory.TheVariants.{OutOfMemory};
@@ -7,11 +7,11 @@ use std::alloc::{AllocError, AllocFailed};
 use std::fmt::Display;
 use thiserror::Error;
 
-/// Why a call that takes memory gives nothing.
+/// The reason why a call that may allocate memory fails.
 #[derive(Clone, Copy, Debug, Error, PartialEq, Eq)]
 #[error_bound(F: Display)]
 pub enum OrMemory<F> {
-    /// What is wrong with what the call was given.
+    /// The error of the input.
     #[error("{0}")]
     Fault(F),
     /// Memory was refused.

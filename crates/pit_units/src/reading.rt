@@ -1,31 +1,30 @@
-//! The decimal that a text states.
+//! Reads the decimal that a text denotes.
 
 ghost use Rattle.std.specs.Prelude.{◌≡◌, ◌+◌, ◌*◌, ◌^◌, ◌≤◌, ◌<◌, ◌==◌, min, drop, slice_index_or, length, not, ◌&&◌, IsTrue, nat_lt, if◌then◌else◌, IfOk, IfSome, IsSome, Ok, Err, [], ℤ, ◌≤ℤ◌};
 ghost use Rattle.std.specs.List.{All, position_or_len};
 ghost use Rattle.std.specs.Str.Parse.{digits_value, without_leading_sign};
 ghost use Rattle.pit_units.specs.Decimal.{all_digits, all_zeros, decimal_of, decimal_within, signed, six_decimals};
-ghost use Rattle.pit_units.specs.Front.{past_digits, past_fraction, past_minus, IsUsual};
+ghost use Rattle.pit_units.specs.Prefix.{past_digits, past_fraction, past_minus, IsUsual};
 ghost use Rattle.pit_units.specs.Shortest.{IsPlainByte};
 ghost use Rattle.pit_units.specs.StandsFor.{StandsFor};
 
 use crate::decimal::Dec;
 use crate::fault::DecFault;
-use crate::front::front_dec;
 use crate::laws::read_is_meant;
+use crate::prefix::leading_dec;
 
-// One more than the largest whole part of a decimal: where a longer count of digits stops.
+// The largest integer part of a decimal + 1: a longer sequence of digits stops there.
 const PAST_LARGEST: u64 = 1_000_000_000_000_000_001;
 
-/// The decimal that a text states: an optional sign, and then digits with at most one point before, among or behind
-/// them. Nothing is trimmed: a text with a blank is no number. At most `max_decimals` decimals count; further ones must
-/// be zeros.
+/// Returns the decimal that a text denotes: an optional sign, then digits with at most one point before, among or after them. Nothing is
+/// trimmed: a text with a blank is not a number. At most `max_decimals` decimals count; further ones must be zeros.
 ///
 /// # Errors
 ///
-/// The first that applies of
+/// Returns the first that applies:
 ///
-/// - `Number`: the text is no decimal;
-/// - `TooFine`: a decimal behind the first `max_decimals` is not zero;
+/// - `Number`: the text is not a decimal;
+/// - `TooFine`: a digit after the first `max_decimals` decimals is not zero;
 /// - `Range`: the number is above 10^18 or below -10^18.
 #[inline(always)]
 pub fn parse_dec(text: &[u8], max_decimals: u8) -> Result<Dec, DecFault>
@@ -49,11 +48,11 @@ fn decimal_in(text: &[u8], max_decimals: u8) -> Result<Dec, DecFault>
     }
 }
 
-/// The decimal that a text states, as `parse_dec` reads it, from `low` to `high` millionths.
+/// Returns the decimal that a text denotes, as `parse_dec` reads it, if it is from `low` to `high` millionths.
 ///
 /// # Errors
 ///
-/// Those of `parse_dec`, and behind them `Range`: the number is below `low` or above `high`.
+/// Fails like `parse_dec`, and then with `Range` if the number is below `low` or above `high`.
 #[inline(always)]
 #[tactic(auto, unfolding(crate::specs::Decimal::decimal_within))]
 pub fn parse_within(text: &[u8], max_decimals: u8, low: i128, high: i128) -> Result<Dec, DecFault>
@@ -81,7 +80,7 @@ pub fn usual_dec(text: &[u8], max_decimals: u8) -> Option<i64>
     ensures taken { IsUsual max_decimals (past_minus text.now)
         → past_fraction (past_digits (past_minus text.now)) ≡ [] → IsSome result }
 {
-    let (millionths, rest) = front_dec(text, max_decimals)?;
+    let (millionths, rest) = leading_dec(text, max_decimals)?;
     if !rest.is_empty() {
         return None;
     }
@@ -107,7 +106,7 @@ fn parse_any(text: &[u8], max_decimals: u8) -> Result<Dec, DecFault>
     within_range(text.first() == Some(&b'-'), size_capped(whole, fraction))
 }
 
-// The text past one sign.
+// Returns the text without one sign at its start.
 fn without_sign(text: &[u8]) -> &[u8]
     ensures { result.now ≡ without_leading_sign text.now }
 {
@@ -117,7 +116,7 @@ fn without_sign(text: &[u8]) -> &[u8]
     }
 }
 
-// The place of the first point, or the length.
+// Returns the position of the first point, or the length.
 fn first_point(text: &[u8]) -> usize
     ensures value { result ≡ position_or_len (λ c. c == 46) text.now }
     ensures within { result ≤ length text.now }
@@ -130,7 +129,7 @@ fn first_point(text: &[u8]) -> usize
     text.len()
 }
 
-/// The bytes from a place on, if there are any.
+/// Returns the bytes from `place` on, or none if it is past the end.
 pub fn after(text: &[u8], place: usize) -> &[u8]
     ensures { result.now ≡ drop place text.now }
 {
@@ -156,7 +155,7 @@ fn is_number(whole: &[u8], fraction: &[u8]) -> bool
     all_digits(whole) && all_digits(fraction) && !(whole.is_empty() && fraction.is_empty())
 }
 
-// The number that digits write, but for one that is past the range of every decimal.
+// Returns the number of the digits, or the limit if it is out of the range of every decimal.
 #[tactic(auto, using(crate::proofs::Digits::capped_more))]
 fn whole_capped(digits: &[u8]) -> u64
     requires { IsTrue (all_digits digits.now) }
@@ -169,7 +168,7 @@ fn whole_capped(digits: &[u8]) -> u64
     value
 }
 
-// The digit at a place after the point: zero where none is written.
+// Returns the digit at `place` after the point, or zero if there is none.
 fn decimal_at(fraction: &[u8], place: usize) -> u8
     requires { IsTrue (all_digits fraction.now) }
     ensures value { result + 48 ≡ slice_index_or fraction.now place 48 }
@@ -182,7 +181,7 @@ fn decimal_at(fraction: &[u8], place: usize) -> u8
     }
 }
 
-// The millionths in the first six decimals.
+// Returns the millionths in the first six decimals.
 fn decimals(fraction: &[u8]) -> u32
     requires { IsTrue (all_digits fraction.now) }
     ensures value { result ≡ digits_value 10 (six_decimals fraction.now) }
@@ -195,7 +194,7 @@ fn decimals(fraction: &[u8]) -> u32
     value
 }
 
-// The millionths of a number, but for one that is past the range of every decimal.
+// Returns the millionths of a number; units out of the range of every decimal count as the limit.
 fn size_capped(whole: &[u8], fraction: &[u8]) -> u128
     requires whole_digits { IsTrue (all_digits whole.now) }
     requires fraction_digits { IsTrue (all_digits fraction.now) }

@@ -1,26 +1,27 @@
 //! `pitc` turns the block models of an open pit mine into a MineLib instance.
 //!
-//! With no words it reads a plan and its zone files from standard input, cut at lines `--`, and writes the instance to standard
-//! output. `pitc compile` does so from files to files. `pitc check BASE` reads the files of an instance and prints its counts.
+//! Without arguments it reads a plan and its zone files from standard input, cut at lines `--`, and writes the instance to standard
+//! output. `pitc compile` does the same from files to files. `pitc check BASE` reads the files of an instance and prints its
+//! counts.
 #![tactic(auto)]
 
 ghost use Rattle.std.specs.Prelude.{◌≡◌, map, string_bytes, IfErr, IfOk, OnErr};
 ghost use Rattle.command_io.specs.FaultLine.{IsDoneOrRefused};
 ghost use Rattle.command_io.specs.PlanFile.{IsNotBegun};
-ghost use Rattle.compile_command.specs.BaseFiles.{IsNoCompileFrom, TellsRowsFrom};
+ghost use Rattle.compile_command.specs.BaseFiles.{IsNoCompileFrom, ReportsRowsFrom};
 ghost use Rattle.compile_command.specs.Printed.{IsNoInput, IsNotPrinted, PrintsInput};
 ghost use Rattle.compile_command.specs.Task.{IsNoTask, IsTaskDone, plan_in};
 ghost use Rattle.plan_parts.specs.PlanFormulas.{formulas_of_plan};
-ghost use Rattle.plan_parts.specs.formulas.Formula.{IsRuled};
+ghost use Rattle.plan_parts.specs.formulas.Formula.{IsFormulaInRange};
 ghost use Rattle.plan_parts.specs.formulas.Worth.{worth};
 ghost use Rattle.run_threads.specs.Starts.{none_spent, AreSettled};
 
 use check_command::check::check;
+use command_io::arguments::arguments_of;
 use command_io::plan_file::read_plan_file;
 use command_io::refused::Refused;
-use command_io::refused::fault_line::tell;
+use command_io::refused::fault_line::report;
 use command_io::refused::status::{USAGE, finish};
-use command_io::words::words_of;
 use command_lines::job::{Job, JobFault, append_error};
 use command_lines::stated_job::job;
 use compile_command::compile_at::Ended;
@@ -52,7 +53,7 @@ fn main(rt: HostRuntime) -> ExitCode {
     let mut starts = Starts::new(&rt, MOST_STARTS);
     let status = match work(&rt, alloc, &mut starts, &mut text, &mut lines) {
         Ok(status) => status,
-        Err(refused) => tell(alloc, &refused, &mut lines),
+        Err(refused) => report(alloc, &refused, &mut lines),
     };
     finish(
         &mut WriteSink::new(rt.stdout()),
@@ -63,8 +64,8 @@ fn main(rt: HostRuntime) -> ExitCode {
     )
 }
 
-// Does what the words ask, and answers the status that the program ends with. Here the words, the input and the files of the system are
-// handed to the steps that promise what is done with them: none of these has the runtime.
+// Runs the job that the arguments state, and returns the exit status. Here the arguments, the input and the system's files go to
+// steps whose contracts state what they do with them; none of these steps has the runtime.
 fn work<R: Alloc<A = Global> + Env + Files + Input, T: Threads + Wait + Sync>(
     rt: &R,
     alloc: Global,
@@ -76,16 +77,16 @@ where
     R::File: Send,
     requires unspent { starts.old ≡ none_spent starts.old.allowed }
 {
-    let words = words_of(alloc, env::args(rt))?;
+    let arguments = arguments_of(alloc, env::args(rt))?;
     let mut files = SystemFiles::new(rt);
     let mut slots = SystemSlots::new(rt);
-    if words.len() <= 1 {
+    if arguments.len() <= 1 {
         let mut input = ReadFeed::new(rt.reader());
         return print_model(
             alloc, &mut input, &mut files, &mut slots, starts, text, lines,
         );
     }
-    match job(alloc, words.as_slice()) {
+    match job(alloc, arguments.as_slice()) {
         Ok(
             Job::Compile {
                 plan,
@@ -109,7 +110,7 @@ where
     }
 }
 
-// Prints the instance of the model in the input, and asks for no file.
+// Prints the instance of the model in the input, and opens no file.
 fn print_model<I: Feed, T: Threads + Wait + Sync, O: Opener, F: FileSlots>(
     alloc: Global,
     input: &mut I,
@@ -120,13 +121,11 @@ fn print_model<I: Feed, T: Threads + Wait + Sync, O: Opener, F: FileSlots>(
     lines: &mut Vec<u8>,
 ) -> Result<u8, Refused>
     requires unspent { starts.old ≡ none_spent starts.old.allowed }
-    ensures ends { IfOk result (IsDoneOrRefused (PrintsInput (I.left input.old) (I.given input.old)
-        (I.given input.new) (I.failures input.old) (I.failures input.new) starts.new)
-        (IsNotPrinted (I.left input.old) (I.given input.old) (I.given input.new)
-        (I.failures input.old) (I.failures input.new) starts.old starts.new)
+    ensures ends { IfOk result (IsDoneOrRefused
+        (PrintsInput (I.state input.old) (I.state input.new) starts.new)
+        (IsNotPrinted (I.state input.old) (I.state input.new) starts.old starts.new)
         text.old.items text.new.items lines.old.items lines.new.items) }
-    ensures unread { IfErr result (IsNoInput (I.left input.old) (I.given input.old)
-        (I.given input.new) (I.failures input.old) (I.failures input.new)) }
+    ensures unread { IfErr result (IsNoInput (I.state input.old) (I.state input.new)) }
     ensures still { OnErr result ((starts.new ≡ starts.old) × (text.new.items ≡ text.old.items)
         × (lines.new.items ≡ lines.old.items)) }
     ensures opened { O.opened files.new ≡ O.opened files.old }
@@ -138,7 +137,7 @@ fn print_model<I: Feed, T: Threads + Wait + Sync, O: Opener, F: FileSlots>(
     Ok(ended.status)
 }
 
-// Compiles the plan in this file and these zone files into the files of BASE.
+// Compiles the plan in this file and these zone files to the files of BASE.
 fn compile<T: Threads + Wait + Sync, O: Opener, F: FileSlots>(
     alloc: Global,
     files: &mut O,
@@ -152,15 +151,14 @@ fn compile<T: Threads + Wait + Sync, O: Opener, F: FileSlots>(
     lines: &mut Vec<u8>,
 ) -> Result<Ended<F::Slot>, Refused>
     requires unspent { starts.old ≡ none_spent starts.old.allowed }
-    ensures ends { IfOk result (λ ended. IsDoneOrRefused (TellsRowsFrom plan.now (string_bytes base)
+    ensures ends { IfOk result (λ ended. IsDoneOrRefused (ReportsRowsFrom plan.now (string_bytes base)
         (map string_bytes zones.items) (O.opened files.old) (O.opened files.new) (F.made slots.old)
-        (F.made slots.new) starts.old starts.new F.Slot.tells O.Opened.given O.Opened.failures
-        settings ended.sinks) (IsNoCompileFrom plan.now (string_bytes base)
+        (F.made slots.new) starts.old starts.new F.Slot.reports O.Opened.state settings
+        ended.sinks) (IsNoCompileFrom plan.now (string_bytes base)
         (map string_bytes zones.items) (O.opened files.old) (O.opened files.new) (F.made slots.old)
-        (F.made slots.new) starts.old starts.new F.Slot.tells O.Opened.left O.Opened.is_sure
-        O.Opened.given O.Opened.failures settings ended.sinks)
+        (F.made slots.new) starts.old starts.new F.Slot.reports O.Opened.state settings ended.sinks)
         text.old.items text.new.items lines.old.items lines.new.items ended.status) }
-    ensures unread { IfErr result (IsNotBegun O.Opened.given O.Opened.failures plan.now
+    ensures unread { IfErr result (IsNotBegun O.Opened.state plan.now
         (O.opened files.old) (O.opened files.new)) }
     ensures still { OnErr result ((F.made slots.new ≡ F.made slots.old) × (starts.new ≡ starts.old)
         × (text.new.items ≡ text.old.items) × (lines.new.items ≡ lines.old.items)) }
@@ -176,8 +174,8 @@ fn compile<T: Threads + Wait + Sync, O: Opener, F: FileSlots>(
     Ok(run(alloc, files, slots, &task, starts, text, lines)?)
 }
 
-// Runs the task with the destinations of its plan, in its order. The closures are made beside the run that asks them, since a function
-// that made one and handed it out could promise nothing of it.
+// Runs the task with the destinations of its plan, in order. It makes the closures itself, since a function that returned a closure
+// could guarantee nothing about it.
 fn run<T: Threads + Wait + Sync, O: Opener, F: FileSlots>(
     alloc: Global,
     files: &mut O,
@@ -189,10 +187,10 @@ fn run<T: Threads + Wait + Sync, O: Opener, F: FileSlots>(
 ) -> Result<Ended<F::Slot>, AllocError>
     requires unspent { starts.old ≡ none_spent starts.old.allowed }
     ensures ends { IfOk result (λ ended. IsDoneOrRefused (IsTaskDone (O.opened files.old)
-        (O.opened files.new) (F.made slots.old) (F.made slots.new) starts.old starts.new F.Slot.tells
+        (O.opened files.new) (F.made slots.old) (F.made slots.new) starts.old starts.new F.Slot.reports
         task.now ended.sinks) (IsNoTask (O.opened files.old) (O.opened files.new) (F.made slots.old)
-        (F.made slots.new) starts.old starts.new F.Slot.tells O.Opened.left O.Opened.is_sure
-        O.Opened.failures task.now (formulas_of_plan (plan_in task.now)) ended.sinks)
+        (F.made slots.new) starts.old starts.new F.Slot.reports O.Opened.state task.now
+        (formulas_of_plan (plan_in task.now)) ended.sinks)
         text.old.items text.new.items lines.old.items lines.new.items ended.status) }
     ensures still { OnErr result ((O.opened files.new ≡ O.opened files.old)
         × (F.made slots.new ≡ F.made slots.old) × (starts.new ≡ starts.old)
@@ -205,7 +203,7 @@ fn run<T: Threads + Wait + Sync, O: Opener, F: FileSlots>(
         let valuer: Valuer = Box::new(
             alloc,
             move |block: Block| -> i128
-                requires { IsRuled kept }
+                requires { IsFormulaInRange kept }
                 ensures { result ≡ worth kept block }
             { kept.worth(block) },
         )?;

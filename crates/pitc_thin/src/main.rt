@@ -1,23 +1,23 @@
-//! `pitc_thin` writes the precedences of a model, and leaves out arcs that follow from others.
+//! `pitc_thin` writes the precedences of a model, and drops arcs that follow from others.
 //!
-//! It reads a plan and its zone files as `pitc compile` does, and writes one precedence file.
+//! It reads a plan and its zone files like `pitc compile`, and writes one precedence file.
 #![tactic(auto)]
 
 ghost use Rattle.std.specs.Prelude.{◌≡◌, map, string_bytes, IfErr, IfOk, OnErr};
 ghost use Rattle.command_io.specs.FaultLine.{IsDoneOrRefused};
 ghost use Rattle.command_io.specs.PlanFile.{IsNotBegun};
 ghost use Rattle.plan_parts.specs.PlanFormulas.{formulas_of_plan};
-ghost use Rattle.plan_parts.specs.formulas.Formula.{IsRuled};
+ghost use Rattle.plan_parts.specs.formulas.Formula.{IsFormulaInRange};
 ghost use Rattle.plan_parts.specs.formulas.Worth.{worth};
 ghost use Rattle.run_threads.specs.Starts.{none_spent, AreSettled};
 ghost use Rattle.thin_command.specs.Thin.{IsNotThinned, IsNotThinnedFrom, TellsThinned, TellsThinnedFrom};
 
+use command_io::arguments::arguments_of;
 use command_io::plan_file::read_plan_file;
 use command_io::refused::Refused;
-use command_io::refused::fault_line::tell;
+use command_io::refused::fault_line::report;
 use command_io::refused::status::{USAGE, finish};
-use command_io::words::words_of;
-use command_lines::job::{JobFault, RunWords, append_error};
+use command_lines::job::{JobFault, RunArguments, append_error};
 use command_lines::thin_line::thin_run;
 use devices::files::file_slot::FileSlots;
 use devices::files::opener::Opener;
@@ -46,7 +46,7 @@ fn main(rt: HostRuntime) -> ExitCode {
     let mut starts = Starts::new(&rt, MOST_STARTS);
     let status = match work(&rt, alloc, &mut starts, &mut text, &mut lines) {
         Ok(status) => status,
-        Err(refused) => tell(alloc, &refused, &mut lines),
+        Err(refused) => report(alloc, &refused, &mut lines),
     };
     finish(
         &mut WriteSink::new(rt.stdout()),
@@ -57,8 +57,8 @@ fn main(rt: HostRuntime) -> ExitCode {
     )
 }
 
-// Does what the words ask, and answers the status that the program ends with. Here the words and the files of the system are handed to the
-// steps that promise what is done with them: none of these has the runtime.
+// Runs the job that the arguments state, and returns the exit status. Here the arguments and the system's files go to steps whose
+// contracts state what they do with them; none of these steps has the runtime.
 fn work<R: Alloc<A = Global> + Env + Files, T: Threads + Wait + Sync>(
     rt: &R,
     alloc: Global,
@@ -70,10 +70,10 @@ where
     R::File: Send,
     requires unspent { starts.old ≡ none_spent starts.old.allowed }
 {
-    let words = words_of(alloc, env::args(rt))?;
-    match thin_run(alloc, words.as_slice()) {
+    let arguments = arguments_of(alloc, env::args(rt))?;
+    match thin_run(alloc, arguments.as_slice()) {
         Ok(
-            RunWords {
+            RunArguments {
                 plan,
                 out,
                 settings,
@@ -98,7 +98,7 @@ where
     }
 }
 
-// Writes what is left of the precedences of the plan in this file and these zone files.
+// Writes the retained precedences of the plan in this file and these zone files.
 fn thin_from<T: Threads + Wait + Sync, O: Opener, S: Sink>(
     alloc: Global,
     files: &mut O,
@@ -113,12 +113,12 @@ fn thin_from<T: Threads + Wait + Sync, O: Opener, S: Sink>(
     requires unspent { starts.old ≡ none_spent starts.old.allowed }
     ensures ends { IfOk result (IsDoneOrRefused (TellsThinnedFrom plan.now
         (map string_bytes zones.now) (O.opened files.old) (O.opened files.new) starts.old starts.new
-        (S.state sink.old) (S.state sink.new) O.Opened.given O.Opened.failures settings)
+        (S.state sink.old) (S.state sink.new) O.Opened.state settings)
         (IsNotThinnedFrom plan.now (map string_bytes zones.now) (O.opened files.old)
         (O.opened files.new) starts.old starts.new (S.state sink.old) (S.state sink.new)
-        O.Opened.left O.Opened.is_sure O.Opened.given O.Opened.failures settings)
+        O.Opened.state settings)
         text.old.items text.new.items lines.old.items lines.new.items) }
-    ensures unread { IfErr result (IsNotBegun O.Opened.given O.Opened.failures plan.now
+    ensures unread { IfErr result (IsNotBegun O.Opened.state plan.now
         (O.opened files.old) (O.opened files.new)) }
     ensures still { OnErr result ((S.state sink.new ≡ S.state sink.old) × (starts.new ≡ starts.old)
         × (text.new.items ≡ text.old.items) × (lines.new.items ≡ lines.old.items)) }
@@ -130,8 +130,8 @@ fn thin_from<T: Threads + Wait + Sync, O: Opener, S: Sink>(
     )?)
 }
 
-// The same of this plan, with its destinations, in their order. The closures are made beside the run that asks them, since a function that
-// made one and handed it out could promise nothing of it.
+// The same for this plan, with its destinations in order. It makes the closures itself, since a function that returned a closure
+// could guarantee nothing about it.
 fn run<T: Threads + Wait + Sync, O: Opener, S: Sink>(
     alloc: Global,
     files: &mut O,
@@ -148,8 +148,7 @@ fn run<T: Threads + Wait + Sync, O: Opener, S: Sink>(
         (O.opened files.old) (O.opened files.new) starts.old starts.new (S.state sink.old)
         (S.state sink.new) settings) (IsNotThinned plan.now (map string_bytes zones.now)
         (O.opened files.old) (O.opened files.new) starts.old starts.new (S.state sink.old)
-        (S.state sink.new) O.Opened.left O.Opened.is_sure O.Opened.failures
-        (formulas_of_plan plan.now) settings)
+        (S.state sink.new) O.Opened.state (formulas_of_plan plan.now) settings)
         text.old.items text.new.items lines.old.items lines.new.items) }
     ensures still { OnErr result ((O.opened files.new ≡ O.opened files.old)
         × (S.state sink.new ≡ S.state sink.old) × (starts.new ≡ starts.old)
@@ -162,7 +161,7 @@ fn run<T: Threads + Wait + Sync, O: Opener, S: Sink>(
         let valuer: Valuer = Box::new(
             alloc,
             move |block: Block| -> i128
-                requires { IsRuled kept }
+                requires { IsFormulaInRange kept }
                 ensures { result ≡ worth kept block }
             { kept.worth(block) },
         )?;

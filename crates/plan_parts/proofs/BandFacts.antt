@@ -1,4 +1,4 @@
--- Bands in order: what a scan finds is what a search by halves finds.
+-- Bands in order: a scan finds the same band as a binary search.
 use Rattle.std.proofs.Common.{◌≡◌, ◌↔◌, ◌<◌, ◌≤◌, ℕ, zero, suc, ◌+◌, ◌-◌, List, [], ◌∷◌, Bool, true, false, nat_lt, nat_le, Option, Some, None, arith, refl, sym, ◌∙◌, ap, subst, cond, All, length, get_or, take}
 use Rattle.std.proofs.Math.Nat.{suc-add}
 use Rattle.std.proofs.lemmas.Bool.{and_parts}
@@ -11,10 +11,10 @@ use Rattle.std.specs.Option.{option_map_or}
 use Rattle.std.proofs.Math.Bool.{and-false}
 use Rattle.plan_parts.specs.PartLaws.{IsBandOf}
 use Rattle.plan_parts.specs.formulas.Bands.{recovery_at}
-use Rattle.plan_parts.specs.formulas.BandsKept.{AreBands, starts_rise}
+use Rattle.plan_parts.specs.formulas.BandsInvariant.{AreBands, starts_rise}
 use Rattle.plan_parts.specs.declared.formulas.band.Band.{Band}
 
--- neighbours that rise are bands that rise
+-- bands whose neighbours rise are rising bands
 rise_yes : (bands : List Band) → AllAdjacentBelow (λ b c. true ≡ nat_lt b.start c.start) bands (length bands) → starts_rise bands ≡ true
 rise_yes [] h = refl
 rise_yes (b ∷ []) h = refl
@@ -32,9 +32,9 @@ rise_no (b ∷ (c ∷ bands)) (suc k) below h =
     let rest : starts_rise (c ∷ bands) ≡ false = rise_no (c ∷ bands) k (omega arith) (λ d. rw suc-add at (h d)) in
     rw rest (and-false (nat_lt b.start c.start))
 
-pub rise_told : (bands : List Band) (r : Bool) → IsAllAdjacentAnswer (λ b c t. t ≡ nat_lt b.start c.start) bands r → r ≡ starts_rise bands
-rise_told bands true h = sym (rise_yes bands h)
-rise_told bands false h = sym (rise_no bands h.0 h.1 h.2)
+pub rise_decided : (bands : List Band) (r : Bool) → IsAllAdjacentAnswer (λ b c t. t ≡ nat_lt b.start c.start) bands r → r ≡ starts_rise bands
+rise_decided bands true h = sym (rise_yes bands h)
+rise_decided bands false h = sym (rise_no bands h.0 h.1 h.2)
 
 -- a later band begins no lower
 rise_adjacent : (bands : List Band) → starts_rise bands ≡ true → AllAdjacentBelow (λ b c. b.start ≤ c.start) bands (length bands)
@@ -50,7 +50,7 @@ pub parted : (bands : List Band) (grade : ℕ) → starts_rise bands ≡ true �
 parted bands grade h =
     IsPartitionedBy-leb (λ b. b.start) bands grade (IsNonDecreasingBy-from_all_adjacent (λ b. b.start) bands (rise_adjacent bands h))
 
--- where the elements up to a place pass and those after it fail, those that pass are those up to it
+-- if the elements before a place pass and the others fail, the passing elements are those before it
 none_pass : {X : Type 0} (p : X → Bool) (xs : List X) → AllWithin (λ x. p x ≡ false) xs 0 (length xs) → filter p xs ≡ []
 none_pass p [] fail = refl
 none_pass p (x ∷ xs) fail =
@@ -76,13 +76,13 @@ pub last_is : {X : Type 0} (xs : List X) → last_or None xs ≡ slice_get xs (l
 last_is [] = refl
 last_is (x ∷ xs) = last_after None x xs ∙ ap (slice_get (x ∷ xs)) (omega arith)
 
--- the last of the bands that begin at or below the grade gives the recovery
+-- the last band that begins at or below the grade has the recovery
 pub recovery_is : (bands begun : List Band) (grade : ℕ) (found : Option Band) → filter (λ b. nat_le b.start grade) bands ≡ begun
     → found ≡ slice_get begun (length begun - 1) → option_map_or (λ (b : Band). b.recovery) found 0 ≡ recovery_at bands grade
 recovery_is bands begun grade found passed is =
     ap (λ (o : Option Band). option_map_or (λ (b : Band). b.recovery) o 0) (is ∙ sym (last_is begun) ∙ ap (last_or None) (sym passed))
 
--- where bands rise, all those behind one begin above it
+-- if bands rise, all bands after one begin above it
 all_above : (b : Band) (bands : List Band) → starts_rise (b ∷ bands) ≡ true → All (λ c. b.start < c.start) bands
 all_above b [] h k d below = absurd (omega arith)
 all_above b (c ∷ bands) h zero d below =
@@ -92,16 +92,16 @@ all_above b (c ∷ bands) h (suc k) d below =
     let above : c.start < (get_or bands k d).start = all_above c bands parts.1 k d (omega arith) in
     grind (arith, nat_tests)
 
-rise_behind : (b : Band) (bands : List Band) → starts_rise (b ∷ bands) ≡ true → starts_rise bands ≡ true
-rise_behind b [] h = refl
-rise_behind b (c ∷ bands) h = (and_parts (nat_lt b.start c.start) (starts_rise (c ∷ bands)) h).1
+rise_after : (b : Band) (bands : List Band) → starts_rise (b ∷ bands) ≡ true → starts_rise bands ≡ true
+rise_after b [] h = refl
+rise_after b (c ∷ bands) h = (and_parts (nat_lt b.start c.start) (starts_rise (c ∷ bands)) h).1
 
--- the last band that begins at or below the grade is the one that begins highest of these
+-- of the bands that begin at or below the grade, the last one begins highest
 last_begun : (o : Option Band) (bands : List Band) (grade : ℕ) (b : Band) → starts_rise bands ≡ true → IsBandOf bands grade b
     → last_or o (filter (λ c. nat_le c.start grade) bands) ≡ Some b
 last_begun o [] grade b rise is = absurd (omega (arith, is.one.1))
 last_begun o (c ∷ bands) grade b rise is =
-    at_place (λ o rest. last_begun o bands grade b (rise_behind c bands rise) rest) is.one.0 is.one.1 is.one.2
+    at_place (λ o rest. last_begun o bands grade b (rise_after c bands rise) rest) is.one.0 is.one.1 is.one.2
   where
     pick : Bool → Option Band
     pick t = last_or o (cond t (c ∷ filter (λ d. nat_le d.start grade) bands) (filter (λ d. nat_le d.start grade) bands))
@@ -111,16 +111,16 @@ last_begun o (c ∷ bands) grade b rise is =
     by_test true with_c without = with_c
     by_test false with_c without = without
 
-    behind : (k : ℕ) → k < length bands → get_or bands k b ≡ b → IsBandOf bands grade b
-    behind k below e = record {
+    following : (k : ℕ) → k < length bands → get_or bands k b ≡ b → IsBandOf bands grade b
+    following k below e = record {
       one = (k, below, e);
       begun = is.begun;
       highest = λ n d low. is.highest (suc n) d (omega arith);
     }
 
-    -- all behind the band begin above the grade
-    none_behind : c ≡ b → AllWithin (λ d. nat_le d.start grade ≡ false) bands 0 (length bands)
-    none_behind e k d low below =
+    -- all bands after the band begin above the grade
+    none_following : c ≡ b → AllWithin (λ d. nat_le d.start grade ≡ false) bands 0 (length bands)
+    none_following e k d low below =
         let above : c.start < (get_or bands k d).start = all_above c bands rise k d below in
         let high : (get_or bands k d).start ≤ grade → (get_or bands k d).start ≤ b.start = is.highest (suc k) d (omega arith) in
         let same : c.start ≡ b.start = ap (λ (d : Band). d.start) e in
@@ -133,9 +133,9 @@ last_begun o (c ∷ bands) grade b rise is =
         → (k : ℕ) → k < suc (length bands) → get_or (c ∷ bands) k b ≡ b → pick (nat_le c.start grade) ≡ Some b
     at_place later zero below e =
         let here : nat_le c.start grade ≡ true = rw e (le_is is.begun) in
-        rw here (rw (none_pass (λ d. nat_le d.start grade) bands (none_behind e)) (ap Some e))
+        rw here (rw (none_pass (λ d. nat_le d.start grade) bands (none_following e)) (ap Some e))
     at_place later (suc k) below e =
-        let rest : IsBandOf bands grade b = behind k (omega arith) e in
+        let rest : IsBandOf bands grade b = following k (omega arith) e in
         by_test (nat_le c.start grade) (later (Some c) rest) (later o rest)
 
 pub recovers_by_band : (bands : List Band) (grade : ℕ) (b : Band) → AreBands bands → IsBandOf bands grade b
@@ -150,6 +150,6 @@ recovers_nothing bands grade above =
     beyond : {start : ℕ} → grade < start → nat_le start grade ≡ false
     beyond above = grind (arith, nat_tests)
 
--- the answer of the test, as a fact
+-- the result of the test, as a fact
 pub answered : {K : Type 0} {E : K → K → Bool} → ((x y : K) → Decides (E x y) (x ≡ y)) → (x y : K) (r : Bool) → r ≡ E x y → IsTrue r ↔ (x ≡ y)
-answered {E = E} told x y r e = subst (λ answer. IsTrue answer ↔ (x ≡ y)) (sym e) (told x y)
+answered {E = E} reported x y r e = subst (λ answer. IsTrue answer ↔ (x ≡ y)) (sym e) (reported x y)

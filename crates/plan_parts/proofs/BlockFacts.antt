@@ -1,13 +1,13 @@
--- A block is that of its fields, and has them where they are in range.
+-- A block is determined by its fields, and has given fields that are in range.
 use Rattle.std.specs.Prelude.{◌≡◌, ℕ, ◌<◌, ◌≤◌, ◌^◌, min}
 use Rattle.std.proofs.Common.{subst, arith}
 use Rattle.std.proofs.Math.Bridge.{le_prop}
 use Rattle.std.proofs.Math.Nat.{min-le_right}
-use Rattle.plan_parts.specs.Block.{block_with, least_below}
+use Rattle.plan_parts.specs.Block.{block_with, smallest_below}
 use Rattle.plan_parts.specs.BlockParts.{AreInRange, HasParts}
 use Rattle.plan_parts.specs.declared.block.Block.{Block}
 
--- a number and that it is in range, however that is shown
+-- a number with a proof that it is in range; the proof does not matter
 kept_same : (InRange : ℕ → Type 0) → ((k : ℕ) (p q : InRange k) → p ≡ q) → (m n : ℕ) → m ≡ n → (p : InRange m) (q : InRange n)
     → ◌≡◌ {A = (k : ℕ) × InRange k} (m, p) (n, q)
 kept_same InRange one m n same p q =
@@ -22,12 +22,12 @@ within_same most = kept_same (λ k. k ≤ most) (λ k p q. le_prop p q)
 pub block_again : (b : Block) → block_with b.x b.y b.z b.kg b.grade b.zone ≡ b
 unfolding block_with
 block_again b =
-    let x = below_same 10000 (min b.x 9999) b.x (omega (arith, b.x_in_grid)) (least_below b.x 9999) b.x_in_grid in
-    let y = below_same 10000 (min b.y 9999) b.y (omega (arith, b.y_in_grid)) (least_below b.y 9999) b.y_in_grid in
-    let z = below_same 10000 (min b.z 9999) b.z (omega (arith, b.z_in_grid)) (least_below b.z 9999) b.z_in_grid in
+    let x = below_same 10000 (min b.x 9999) b.x (omega (arith, b.x_in_grid)) (smallest_below b.x 9999) b.x_in_grid in
+    let y = below_same 10000 (min b.y 9999) b.y (omega (arith, b.y_in_grid)) (smallest_below b.y 9999) b.y_in_grid in
+    let z = below_same 10000 (min b.z 9999) b.z (omega (arith, b.z_in_grid)) (smallest_below b.z 9999) b.z_in_grid in
     let kg = within_same (10 ^ 9) (min b.kg (10 ^ 9)) b.kg (omega (arith, b.kg_in_range)) (min-le_right b.kg (10 ^ 9)) b.kg_in_range in
     let grade = within_same (10 ^ 12) (min b.grade (10 ^ 12)) b.grade (omega (arith, b.grade_in_range)) (min-le_right b.grade (10 ^ 12)) b.grade_in_range in
-    let zone = below_same 64 (min b.zone 63) b.zone (omega (arith, b.zone_in_range)) (least_below b.zone 63) b.zone_in_range in
+    let zone = below_same 64 (min b.zone 63) b.zone (omega (arith, b.zone_in_range)) (smallest_below b.zone 63) b.zone_in_range in
     λ i. record {
       x = (x i).0;
       y = (y i).0;

@@ -1,10 +1,10 @@
--- When a bound can be kept, and in which order limits stand.
+-- The bounds that some tonnes satisfy, and the order of limits.
 use Rattle.std.proofs.Common.{◌≡◌, ◌<◌, ◌↔◌, IsTrue, false, not, arith, refl}
 use Rattle.std.proofs.lemmas.Bool.Decides.{nat_tests}
 use Rattle.std.proofs.lemmas.Int.{ints}
 use Rattle.std.specs.Prelude.{ℤ, ◌≤ℤ◌, int_le}
 use Rattle.plan_parts.specs.PartLaws.{place_of, KeepsBound}
-use Rattle.plan_parts.specs.PlanKept.{is_turned, stands_before}
+use Rattle.plan_parts.specs.PlanInvariant.{is_turned, stands_before}
 use Rattle.plan_parts.specs.declared.limit.Bound.{Bound}
 use Rattle.plan_parts.specs.declared.limit.Bound.TheVariants.{AtMost, AtLeast, Between}
 use Rattle.plan_parts.specs.declared.limit.Limit.{Limit}

@@ -1,4 +1,4 @@
--- A NAME is text, of 65 bytes.
+-- A NAME is text, with 65 possible bytes.
 use Rattle.std.proofs.Common.{◌≡◌, ◌<◌, nat_eq, ℕ, List, [], ◌∷◌, Bool, true, false, arith, refl, sym, ◌∙◌, subst, All, rules}
 use Rattle.std.proofs.lemmas.Bool.{and_parts}
 use Rattle.std.proofs.lemmas.Bool.Decides.{nat_tests}
@@ -34,15 +34,15 @@ not_text bytes never =
 abbrev is_among : ℕ → Bool
 is_among b = list_any (nat_eq b) name_bytes
 
-told_below : (b : ℕ) → b < 128 → is_name_byte b ≡ is_among b
-told_below b low = agree_below_at is_name_byte is_among 128 b refl low
+decided_below : (b : ℕ) → b < 128 → is_name_byte b ≡ is_among b
+decided_below b low = agree_below_at is_name_byte is_among 128 b refl low
 
 all_ascii : All (λ b. b < 128) name_bytes
 all_ascii = all_below name_bytes refl
 
 pub among : (b : ℕ) → is_name_byte b ≡ true → Contains name_bytes b
 among b h =
-    Contains-from_any {eq = nat_eq} eqb-true b name_bytes (sym (told_below b (name_byte_below b h)) ∙ h)
+    Contains-from_any {eq = nat_eq} eqb-true b name_bytes (sym (decided_below b (name_byte_below b h)) ∙ h)
 
 pub from_among : (b : ℕ) → Contains name_bytes b → is_name_byte b ≡ true
-from_among b has = told_below b (subst (λ c. c < 128) has.2 (all_ascii has.0 b has.1)) ∙ list_any-from_Contains nat_eq_equiv b name_bytes has
+from_among b has = decided_below b (subst (λ c. c < 128) has.2 (all_ascii has.0 b has.1)) ∙ list_any-from_Contains nat_eq_equiv b name_bytes has

@@ -7,9 +7,9 @@ use Rattle.std.specs.Prelude.{ℤ, pos, negsuc, ◌+ℤ◌, ◌-ℤ◌, ◌*ℤ�
 use Rattle.std.specs.List.{filter, last_or}
 use Rattle.std.specs.Option.{option_map_or}
 use Rattle.plan_parts.specs.formulas.Bands.{recovery_at}
-use Rattle.plan_parts.specs.formulas.BandsKept.{IsBand}
+use Rattle.plan_parts.specs.formulas.BandsInvariant.{IsBand}
 use Rattle.plan_parts.specs.PartLaws.{Earns}
-use Rattle.plan_parts.specs.formulas.Formula.{IsRuled}
+use Rattle.plan_parts.specs.formulas.Formula.{IsFormulaInRange}
 use Rattle.plan_parts.specs.formulas.Worth.{floor, worth}
 use Rattle.plan_parts.specs.formulas.WorthRange.{IsFloor, IsWorth}
 use Rattle.plan_parts.specs.declared.formulas.band.Band.{Band}
@@ -30,7 +30,7 @@ floor_is (negsuc a) n some =
     let more : suc (a / n) * n ≡ a / n * n + n = suc-mul (a / n) n in
     (omega (arith, ints, div-add-mod' a n, mod_below a n some), omega (arith, ints, div-add-mod' a n, mod_below a n some))
 
--- the quotient of whole numbers is the one number below whose multiple the rest is left
+-- the quotient of natural numbers is the only q with q * n <= a < q * n + n
 quotient : (q a n : ℕ) → q * n ≤ a → a < q * n + n → q ≡ a / n
 quotient q a n low high = sym (div-eq_of_lt-le n low (rw (add-one, suc-mul q n) high))
 
@@ -41,12 +41,12 @@ floor_alone (negsuc q) (negsuc a) n some h =
 floor_alone (pos q) (negsuc a) n some h = absurd (omega (arith, ints, h.0))
 floor_alone (negsuc q) (pos a) n some h = absurd (omega (arith, ints, h.1, suc-mul q n))
 
--- a floor of a floor is one
+-- a floor of a floor is a floor
 pub floor_twice : (z : ℤ) (m n : ℕ) → floor (floor z m) n ≡ floor z (m * n)
 floor_twice (pos a) m n = ap pos (div-div-eq-div-mul a m n)
 floor_twice (negsuc a) m n = ap negsuc (div-div-eq-div-mul a m n)
 
--- a recovery is in range where each band is
+-- a recovery is in range if each band is
 pub recovery_bound : (o : Option Band) (bands : List Band) (grade : ℕ) → option_map_or (λ b. b.recovery) o 0 ≤ 1000 → All IsBand bands
     → option_map_or (λ b. b.recovery) (last_or o (filter (λ b. nat_le b.start grade) bands)) 0 ≤ 1000
 recovery_bound o [] grade first rest = first
@@ -77,22 +77,22 @@ mill_bound kg grade recovery price cost k g r p c =
     near : (earned spent : ℕ) → earned ≤ 10 ^ 32 → spent ≤ 10 ^ 16 → IsWorth (floor (pos earned -ℤ pos (spent * 10 ^ 12)) (10 ^ 15))
     near earned spent e s = floor_bound (pos earned -ℤ pos (spent * 10 ^ 12)) (omega (arith, ints))
 
--- so is what is spent alone, in thousandths of a cent
+-- so are the costs alone, in thousandths of a cent
 spent_bound : (spent : ℕ) → spent ≤ 10 ^ 20 → IsWorth (floor (neg_ℤ (pos spent)) 1000)
 spent_bound zero s = omega arith
 spent_bound (suc spent) s = omega arith
 
 -- the worth of a block by a formula in range
-pub worth_bound : (f : Formula) (b : Block) → IsRuled f → IsWorth (worth f b)
-worth_bound (formula.Mill recovery price cost) b ruled =
-    mill_bound b.kg b.grade recovery price cost b.kg_in_range b.grade_in_range ruled.0 ruled.1 ruled.2
-worth_bound (formula.Leach bands price cost) b ruled =
+pub worth_bound : (f : Formula) (b : Block) → IsFormulaInRange f → IsWorth (worth f b)
+worth_bound (formula.Mill recovery price cost) b formula_in_range =
+    mill_bound b.kg b.grade recovery price cost b.kg_in_range b.grade_in_range formula_in_range.0 formula_in_range.1 formula_in_range.2
+worth_bound (formula.Leach bands price cost) b formula_in_range =
     mill_bound b.kg b.grade _ price cost b.kg_in_range b.grade_in_range
-    (recovery_bound None bands b.grade (omega arith) ruled.0.in_range) ruled.1 ruled.2
-worth_bound (formula.Dump cost) b ruled =
-    spent_bound (b.kg * cost) (omega (arith, mul-le b.kg cost (10 ^ 9) (10 ^ 7) b.kg_in_range ruled))
+    (recovery_bound None bands b.grade (omega arith) formula_in_range.0.in_range) formula_in_range.1 formula_in_range.2
+worth_bound (formula.Dump cost) b formula_in_range =
+    spent_bound (b.kg * cost) (omega (arith, mul-le b.kg cost (10 ^ 9) (10 ^ 7) b.kg_in_range formula_in_range))
 
--- a floor is the greatest number whose multiple is paid beside what is spent
+-- a floor is the largest number whose multiple is earned in addition to the costs
 paid : (earned spent : ℕ) → ((floor (pos earned -ℤ pos spent) (10 ^ 15) *ℤ pos (10 ^ 15)) +ℤ pos spent) ≤ℤ pos earned
 paid earned spent = by_floor (floor (pos earned -ℤ pos spent) (10 ^ 15)) (floor_is (pos earned -ℤ pos spent) (10 ^ 15) (omega arith))
   where
@@ -107,7 +107,7 @@ most earned spent cents within =
     by_floor : (q : ℤ) → IsFloor q (pos earned -ℤ pos spent) (10 ^ 15) → cents ≤ℤ q
     by_floor q is = omega (arith, ints, is.1, within)
 
--- what a dump costs, in thousandths of a cent, is spent by a mill that earns nothing
+-- the cost of a dump, in thousandths of a cent, is the cost of a mill that earns nothing
 dumps : (spent : ℕ) → floor (neg_ℤ (pos spent)) 1000 ≡ floor (pos 0 -ℤ pos (spent * 10 ^ 12)) (10 ^ 15)
 dumps spent =
     floor_alone (floor (neg_ℤ (pos spent)) 1000) (pos 0 -ℤ pos (spent * 10 ^ 12)) (10 ^ 15) (omega arith)
@@ -125,10 +125,10 @@ worth_earned (formula.Leach bands price cost) b = paid (b.kg * b.grade * recover
 worth_earned (formula.Dump cost) b =
     rw (no_metal (b.kg * b.grade), dumps (b.kg * cost)) (paid 0 (b.kg * cost * 10 ^ 12))
 
-pub worth_greatest : (f : Formula) (b : Block) (cents : ℤ) → Earns f b cents → cents ≤ℤ worth f b
-worth_greatest (formula.Mill recovery price cost) b cents within =
+pub worth_largest : (f : Formula) (b : Block) (cents : ℤ) → Earns f b cents → cents ≤ℤ worth f b
+worth_largest (formula.Mill recovery price cost) b cents within =
     most (b.kg * b.grade * recovery * price) (b.kg * cost * 10 ^ 12) cents within
-worth_greatest (formula.Leach bands price cost) b cents within =
+worth_largest (formula.Leach bands price cost) b cents within =
     most (b.kg * b.grade * recovery_at bands b.grade * price) (b.kg * cost * 10 ^ 12) cents within
-worth_greatest (formula.Dump cost) b cents within =
+worth_largest (formula.Dump cost) b cents within =
     rw (dumps (b.kg * cost)) (most 0 (b.kg * cost * 10 ^ 12) cents (rw (no_metal (b.kg * b.grade)) at within))

@@ -6,6 +6,6 @@ pub mod OfPlan
 pub mod PartLaws
 pub mod Plan
 pub mod PlanFormulas
-pub mod PlanKept
+pub mod PlanInvariant
 pub mod formulas
 pub mod inner

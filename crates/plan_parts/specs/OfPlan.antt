@@ -7,7 +7,7 @@ use Rattle.plan_parts.specs.declared.formulas.destination.Destination.{Destinati
 use Rattle.plan_parts.specs.PlanFormulas.{formulas_of_plan}
 use Rattle.plan_parts.specs.Destinations.{formulas_of}
 
--- the closure that it calls
+-- the closure that a destination calls
 abbrev pub valuer_of : {I : _} {F : _} {g : _} → Destination I F g → DynBox I Global F
 valuer_of d = d.valuer
 

@@ -1,4 +1,4 @@
--- Other descriptions of NAMEs, bands, worths and limits, which laws compare with the definitions.
+-- Other descriptions of NAMEs, bands, worths and limits, which theorems compare with the definitions.
 use Rattle.std.specs.Prelude.{ℕ, ◌+◌, ◌*◌, ◌≤◌, List, All, ℤ, pos, ◌+ℤ◌, ◌*ℤ◌, ◌≤ℤ◌, codes}
 use Rattle.std.specs.List.{Contains}
 use Rattle.plan_parts.specs.formulas.Bands.{recovery_at}
@@ -38,7 +38,8 @@ cost_of (formula.Mill recovery price cost) = cost
 cost_of (formula.Leach bands price cost) = cost
 cost_of (formula.Dump cost) = cost
 
--- the kilograms of a tonne, and the grams of a kilogram; the fractions of a gram that grades count; the fractions that recoveries count
+-- the kilograms in a tonne, which is also the number of grams in a kilogram; the fractions of a gram that grades count; the
+-- fractions that recoveries count
 abbrev pub kilo : ℕ
 kilo = 1000
 

@@ -1,5 +1,5 @@
 pub mod Bands
-pub mod BandsKept
+pub mod BandsInvariant
 pub mod Formula
 pub mod FormulaCopy
 pub mod Worth

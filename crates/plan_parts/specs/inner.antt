@@ -1,4 +1,4 @@
 pub mod Equality
+pub mod InRangeOnce
 pub mod Past
 pub mod PlanFields
-pub mod RuledOnce

@@ -1,12 +1,12 @@
-//! Laws of the definitions that contracts use. Each function here does nothing; its contract states a law.
+//! Theorems about the definitions that contracts use. Each function does nothing; its contract states a theorem.
 
 ghost use Rattle.std.specs.Prelude.{◌≡◌, ◌↔◌, IsTrue, false, ℕ, ℤ, ◌<◌, ◌≤ℤ◌, List, All, Contains};
 ghost use Rattle.plan_parts.specs.formulas.Bands.{recovery_at};
-ghost use Rattle.plan_parts.specs.formulas.BandsKept.{AreBands};
-ghost use Rattle.plan_parts.specs.formulas.Formula.{IsRuled};
+ghost use Rattle.plan_parts.specs.formulas.BandsInvariant.{AreBands};
+ghost use Rattle.plan_parts.specs.formulas.Formula.{IsFormulaInRange};
 ghost use Rattle.plan_parts.specs.Name.{is_name_byte};
 ghost use Rattle.plan_parts.specs.PartLaws.{name_bytes, place_of, Earns, IsBandOf, KeepsBound};
-ghost use Rattle.plan_parts.specs.PlanKept.{is_turned, stands_before};
+ghost use Rattle.plan_parts.specs.PlanInvariant.{is_turned, stands_before};
 ghost use Rattle.plan_parts.specs.formulas.Worth.{floor, worth};
 ghost use Rattle.plan_parts.specs.formulas.WorthRange.{IsFloor, IsWorth};
 ghost use Rattle.plan_parts.specs.declared.formulas.band.Band.{Band};
@@ -25,7 +25,7 @@ pub fn floors_go_down()
     ensures alone { (q a : ℤ) (n : ℕ) → 0 < n → IsFloor q a n → q ≡ floor a n }
 {}
 
-/// A leach recovers at a grade what the band of the grade recovers, and nothing if all bands begin above the grade.
+/// At a grade, a leach has the recovery of the grade's band, and 0 if all bands begin above the grade.
 #[tactic(auto, using(crate::proofs::BandFacts::recovers_nothing))]
 pub fn a_leach_recovers_by_the_band_of_the_grade()
     ensures band { (bands : List Band) (grade : ℕ) (b : Band) → AreBands bands → IsBandOf bands grade b
@@ -34,25 +34,25 @@ pub fn a_leach_recovers_by_the_band_of_the_grade()
 {}
 
 /// The worth of a block is the largest integer number of cents by which the price of its recovered metal exceeds its cost.
-#[tactic(auto, using(crate::proofs::WorthFacts::worth_earned, crate::proofs::WorthFacts::worth_greatest))]
+#[tactic(auto, using(crate::proofs::WorthFacts::worth_earned, crate::proofs::WorthFacts::worth_largest))]
 pub fn a_worth_is_the_most_that_is_earned()
     ensures earned { (f : AFormula) (b : Block) → Earns f b (worth f b) }
     ensures most { (f : AFormula) (b : Block) (cents : ℤ) → Earns f b cents → cents ≤ℤ worth f b }
 {}
 
-/// By a formula in range, the worth of each block is within 10^17 cents of zero.
+/// If a formula is in range, the worth of each block by it is within 10^17 cents of zero.
 #[tactic(auto, using(crate::proofs::WorthFacts::worth_bound))]
 pub fn worths_are_in_range()
-    ensures { (f : AFormula) (b : Block) → IsRuled f → IsWorth (worth f b) }
+    ensures { (f : AFormula) (b : Block) → IsFormulaInRange f → IsWorth (worth f b) }
 {}
 
-/// The bytes of a NAME are among these 65, so a NAME is one cell and one field, and never a path.
+/// A byte is a byte of NAMEs if and only if it is one of these 65. So a NAME is one cell and one field, and has no slash.
 #[tactic(auto, using(crate::proofs::Names::among, crate::proofs::Names::from_among))]
 pub fn names_have_few_bytes()
     ensures { (b : ℕ) → IsTrue (is_name_byte b) ↔ Contains name_bytes b }
 {}
 
-/// The lower end of a bound is not above its upper end exactly if some number of tonnes is within the bound.
+/// The lower end of a bound is not above its upper end if and only if some number of tonnes is within the bound.
 #[tactic(auto, using(crate::proofs::LimitFacts::kept_by, crate::proofs::LimitFacts::straight))]
 pub fn straight_bounds_can_be_kept()
     ensures { (b : Bound) → (is_turned b ≡ false) ↔ ((tonnes : ℤ) × KeepsBound b tonnes) }
@@ -66,7 +66,7 @@ pub fn limits_stand_by_place()
 {}
 
 /// `==` of formulas returns whether they are the same.
-#[tactic(auto, using(crate::specs::inner::Equality::bands_told))]
+#[tactic(auto, using(crate::specs::inner::Equality::bands_decided))]
 pub fn equal_formulas_are_the_same()
     ensures { (f g : AFormula) → IsTrue (⟦<Formula as PartialEq>⟧.eq f g) ↔ (f ≡ g) }
 {}

@@ -1,7 +1,7 @@
 //! The limits that a plan sets on its resources.
 
 ghost use Rattle.std.specs.Prelude.{◌≡◌};
-ghost use Rattle.plan_parts.specs.PlanKept.{is_turned, stands_before};
+ghost use Rattle.plan_parts.specs.PlanInvariant.{is_turned, stands_before};
 
 use pit_units::Dec;
 
@@ -42,7 +42,7 @@ pub struct Limit {
 }
 
 impl Limit {
-    /// Returns whether the limit comes before another: by resource, then by period.
+    /// Returns whether the limit precedes another: by resource, then by period.
     pub fn stands_before(&self, other: &Limit) -> bool
         ensures { result ≡ stands_before self.now other.now }
     {

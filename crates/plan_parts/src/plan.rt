@@ -1,7 +1,7 @@
 //! The plan of a mine.
 
 ghost use Rattle.std.specs.Prelude.{◌≡◌};
-ghost use Rattle.plan_parts.specs.PlanKept.{IsPlan, plan_of};
+ghost use Rattle.plan_parts.specs.PlanInvariant.{IsPlan, plan_of};
 
 use crate::cone::Cone;
 use crate::formulas::formula::NamedFormula;

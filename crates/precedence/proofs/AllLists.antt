@@ -1,4 +1,4 @@
--- What the rows of the zones' cones say of all blocks is what lies above each.
+-- The rows of the zones' cones contain exactly the blocks above each block.
 use Rattle.std.proofs.Common.{◌≡◌, ℕ, ◌+◌, ◌-◌, ◌<◌, ◌≤◌, ◌^◌, ◌&&◌, Bool, false, List, [], ◌∷◌, Some, All, length, map, get_or, nat_lt, nat_le, slice_get, refl, sym, ap, subst, ◌∙◌, arith, ⊎_elim, if◌then◌else◌}
 use Rattle.std.specs.Int.{abs_diff}
 use Rattle.std.specs.List.Sorted.{IsStrictlyIncreasing}
@@ -28,7 +28,7 @@ use Rattle.precedence.specs.declared.lists.found_preds.FoundPreds.TheInside.{Ins
 use Rattle.precedence.proofs.PlacesWhere.{length-places_where}
 use Rattle.precedence.proofs.runs.RunsOfRows.{before_rows}
 
--- an element that is there meets what all meet
+-- an element of the list meets what all elements meet
 pub all_at : {X : Type 0} (P : X → Type 0) (xs : List X) (k : ℕ) (x : X) → All P xs → k < length xs → slice_get xs k ≡ Some x → P x
 all_at P xs k x all lt is = subst P (get_or_from_slice_get xs k x x is) (all k x lt)
 
@@ -41,7 +41,7 @@ blocks_where test other n (b ∷ bs) h =
     let rest = blocks_where test other (n + 1) bs (All-tail (λ b. test (place_code b) ≡ other b) b bs h) in
     λ j. if first j then n ∷ rest j else rest j
 
--- lists by the zones and codes of blocks are lists by the blocks
+-- lists by the zones and codes of blocks equal lists by the blocks
 zipped : (one : ℕ → ℕ → List ℕ) (list : Block → List ℕ) (bs : List Block) → All (λ b. one b.zone (place_code b) ≡ list b) bs
     → zip2 one (map (λ b. b.zone) bs) (place_codes bs) ≡ map list bs
 zipped one list [] h = refl
@@ -50,7 +50,7 @@ zipped one list (b ∷ bs) h =
     let rest = zipped one list bs (All-tail (λ b. one b.zone (place_code b) ≡ list b) b bs h) in
     λ j. first j ∷ rest j
 
--- a block before another lies neither in a row of its cone nor above it
+-- an earlier block is neither in a row of a block's cone nor above it
 none_before : (grid : Grid) (cone : Cone) (rows : List Row) (low high : Block) → AreInOrder rows → place_code high < place_code low
     → is_in_rows (place_code low) rows (place_code high) ≡ is_above grid cone low high
 none_before grid cone rows low high order lt =
@@ -73,7 +73,7 @@ module _ (plan : PlanParts) (extents : List Extent) (tables : List ConeTable) (o
   code_is : (k : ℕ) (d : Block) → k < length blocks → get_or (place_codes blocks) k 0 ≡ place_code (get_or blocks k d)
   code_is k d lt = get_or-map place_code blocks k d 0 lt
 
-  -- the codes of the blocks before a block are less
+  -- an earlier block has a smaller code
   less_before : (j k : ℕ) (d e : Block) → j < k → k < length blocks → place_code (get_or blocks j e) < place_code (get_or blocks k d)
   less_before j k d e before lt =
       let long = length-map blocks place_code in
@@ -84,7 +84,7 @@ module _ (plan : PlanParts) (extents : List Extent) (tables : List ConeTable) (o
         AllPairs-from_increasing (place_codes blocks) rising j k 0 before (omega (arith, long)),
       )
 
-  -- the rows tell of a block and each other
+  -- the rows contain another block's code exactly if that block is above
   told_is : (cone : Cone) (rows : List Row) (k j : ℕ) (d e : Block) → k < length blocks → j < length blocks → AreInOrder rows
       → IsTable plan.grid cone (get_or extents (get_or blocks k d).zone nowhere) rows
       → is_in_rows (place_code (get_or blocks k d)) rows (place_code (get_or blocks j e)) ≡ is_above plan.grid cone (get_or blocks k d) (get_or blocks j e)
@@ -95,7 +95,7 @@ module _ (plan : PlanParts) (extents : List Extent) (tables : List ConeTable) (o
       (near k j d nowhere behind within)))
       (cases_lt j k)
 
-  -- one block's list
+  -- the list of one block
   list_is : (k : ℕ) (d : Block) → k < length blocks → (get_or blocks k d).zone < length plan.cones
       → in_cone tables of_zone (place_codes blocks) (get_or blocks k d).zone (place_code (get_or blocks k d))
       ≡ above plan.grid (slice_get plan.cones (get_or blocks k d).zone) blocks (get_or blocks k d)
@@ -120,14 +120,14 @@ module _ (plan : PlanParts) (extents : List Extent) (tables : List ConeTable) (o
   preds_are = zipped (in_cone tables of_zone (place_codes blocks)) (λ low. above plan.grid (slice_get plan.cones low.zone) blocks low) blocks
       (λ k d lt. list_is k d lt (zones k d lt))
 
--- each code of a block is small
+-- every code of a block is small
 pub codes_small : (blocks : List Block) → All (λ c. c < CODES) (place_codes blocks)
 codes_small blocks = All-map (λ c. c < CODES) place_code blocks (λ k d lt. small (get_or blocks k d))
   where
     small : (b : Block) → place_code b < CODES
     small b = omega (arith, b.x_in_grid, b.y_in_grid, b.z_in_grid)
 
--- what a search finds
+-- the result of a search
 module _ (f : Inside) (keeps : KeepsFound f) where
   abbrev one : ℕ → ℕ → List ℕ
   one = in_cone f.tables.tables.items f.tables.of_zone.items f.places.codes.items
@@ -143,7 +143,7 @@ module _ (f : Inside) (keeps : KeepsFound f) where
       (omega (arith, found_length, ap length is)) (omega (arith, found_length, ap length is, keeps.each))
       ∙ (λ j. one (sym of_block j) (sym at_place j))
 
-  -- no more than there are blocks
+  -- a list has no more identifiers than there are blocks
   pub few_found : (lists : List (List ℕ)) (id zone from : ℕ) → found_in f ≡ lists → id < length lists
       → zone ≡ get_or f.zones.items id zone → from ≡ get_or f.places.codes.items id from → length (get_or lists id []) < 2 ^ 63
   few_found lists id zone from is lt of_block at_place =

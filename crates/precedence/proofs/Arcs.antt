@@ -1,4 +1,4 @@
--- How many identifiers stand in lists, counted row by row of the cones.
+-- The number of identifiers in lists, counted by the rows of the cones.
 use Rattle.std.proofs.Common.{◌≡◌, ℕ, zero, suc, ◌+◌, ◌-◌, ◌*◌, ◌<◌, ◌≤◌, ◌==◌, Bool, true, false, List, [], ◌∷◌, All, length, drop, take, get_or, nat_lt, refl, sym, ap, subst, ◌∙◌, arith, length-append, ⊎_elim, if◌then◌else◌}
 use Rattle.std.specs.Prelude.{sum_by}
 use Rattle.std.specs.List.{range_with_len}
@@ -13,22 +13,22 @@ use Rattle.precedence.specs.IdRuns.{is_in}
 use Rattle.precedence.specs.inner.Arcs.{arcs_before, codes_with, count_in}
 use Rattle.precedence.specs.inner.Rows.{is_in_rows, start_of, LieApart}
 use Rattle.precedence.specs.declared.cones.cone_rows.Row.{Row}
-use Rattle.precedence.proofs.enough.Walks.{at_in, first_below, first_in, in_right, or_cases, tail_rises}
+use Rattle.precedence.proofs.Listed.{at_in, first_below, first_in, in_right, or_cases, tail_rises}
 use Rattle.precedence.proofs.runs.RunsOfRows.{adds_run}
 use Rattle.precedence.proofs.runs.Starts.{no_less, start_before, start_grows, start_within}
 
--- the sum of two counts of each
+-- the sum of two counts of each element
 pub sum_both : {X : Type 0} (f g h : X → ℕ) (xs : List X) → ((x : X) → f x ≡ g x + h x) → sum_by f xs ≡ sum_by g xs + sum_by h xs
 sum_both f g h [] each = refl
 sum_both f g h (x ∷ xs) each =
     omega (arith, each x, sum_both f g h xs each, sum_by-cons f x xs, sum_by-cons g x xs, sum_by-cons h x xs)
 
--- nothing of each
+-- the sum is 0 if each count is 0
 pub sum_none : {X : Type 0} (f : X → ℕ) (xs : List X) → ((x : X) → f x ≡ 0) → sum_by f xs ≡ 0
 sum_none f [] each = refl
 sum_none f (x ∷ xs) each = omega (arith, each x, sum_none f xs each, sum_by-cons f x xs)
 
--- what lies in the rows from one on is what lies in that row, and in those behind it
+-- the number in the rows from one on is the number in that row and in the rows after it
 pub row_more : (codes : List ℕ) (rows : List Row) (high i : ℕ) (row : Row) → IsStrictlyIncreasing codes → LieApart 0 rows high
     → i < length rows → row ≡ get_or rows i row → (from : ℕ)
     → length (places_where (is_in_rows from (drop i rows)) 0 codes)
@@ -43,7 +43,7 @@ row_more codes rows high i row rising apart lt is from =
     ∙ ap (λ n. n + length rest) (length-range_with_len first (past - first))
 
 module _ (list : ℕ → ℕ → List ℕ) (of_zone : List ℕ) where
-  -- one table more
+  -- the number with the next table
   pub table_more : (t : ℕ) (f : ℕ → ℕ) → ((z c : ℕ) → get_or of_zone z 0 ≡ t → length (list z c) ≡ f c) → (zones codes : List ℕ)
       → arcs_before list of_zone (t + 1) zones codes ≡ arcs_before list of_zone t zones codes + sum_by f (codes_with of_zone t zones codes)
   table_more t f same [] codes = refl
@@ -84,7 +84,7 @@ module _ (list : ℕ → ℕ → List ℕ) (of_zone : List ℕ) where
       (cases_lt p t))
       (cases_Bool (p == t))
 
-  -- before the first table
+  -- no arcs before the first table
   pub no_table : (zones codes : List ℕ) → arcs_before list of_zone 0 zones codes ≡ 0
   no_table [] codes = refl
   no_table (z ∷ zs) [] = refl
@@ -92,7 +92,7 @@ module _ (list : ℕ → ℕ → List ℕ) (of_zone : List ℕ) where
       let no : nat_lt (get_or of_zone z 0) 0 ≡ false = le-ltb _ _ (omega arith) in
       (λ j. (if no j then length (list z c) else 0) + arcs_before list of_zone 0 zs cs) ∙ omega (arith, no_table zs cs)
 
-  -- all tables
+  -- all arcs with all tables
   pub all_tables : (t : ℕ) (zones codes : List ℕ) → All (λ z. get_or of_zone z 0 < t) zones
       → arcs_before list of_zone t zones codes ≡ sum_by length (zip2 list zones codes)
   all_tables t [] codes below = refl
@@ -103,7 +103,7 @@ module _ (list : ℕ → ℕ → List ℕ) (of_zone : List ℕ) where
       (λ j. (if yes j then length (list z c) else 0) + rest j)
       ∙ sym (sum_by-cons length (list z c) (zip2 list zs cs))
 
-  -- no more than so many for each block
+  -- at most m arcs for each block
   pub few_before : (t m : ℕ) → ((z c : ℕ) → length (list z c) ≤ m) → (zones codes : List ℕ)
       → arcs_before list of_zone t zones codes ≤ length zones * m
   few_before t m few [] codes = omega arith
@@ -115,7 +115,7 @@ module _ (list : ℕ → ℕ → List ℕ) (of_zone : List ℕ) where
       one true rest here = omega (arith, rest, here)
       one false rest here = omega (arith, rest, here)
 
--- codes that have nothing add nothing
+-- codes with empty rows add nothing
 pub sum_skip : {X : Type 0} (f : X → ℕ) (xs : List X) (d : X) (k n : ℕ) → k + n ≤ length xs
     → ((j : ℕ) → k ≤ j → j < k + n → f (get_or xs j d) ≡ 0) → sum_by f (take (k + n) xs) ≡ sum_by f (take k xs)
 sum_skip f xs d k zero le none = let same : k + zero ≡ k = omega arith in ap (λ m. sum_by f (take m xs)) same
@@ -129,7 +129,7 @@ sum_skip f xs d k (suc n) le none =
       sum_skip f xs d k n (omega (arith, le)) (λ j low up. none j low (omega (arith, up))),
     )
 
--- as many from one place up to another
+-- equal counts from one index up to another
 pub sum_to : {X : Type 0} (f : X → ℕ) (xs : List X) (d : X) (k to : ℕ) → k ≤ to → to ≤ length xs
     → ((j : ℕ) → k ≤ j → j < to → f (get_or xs j d) ≡ 0) → sum_by f (take to xs) ≡ sum_by f (take k xs)
 sum_to f xs d k to le within none =
@@ -137,7 +137,7 @@ sum_to f xs d k to le within none =
     ap (λ m. sum_by f (take m xs)) (sym at)
     ∙ sum_skip f xs d k (to - k) (omega (arith, le, within)) (λ j low up. none j low (omega (arith, up, le)))
 
--- a row in which nothing lies for one code has nothing for the next ones either, up to where it reaches the next identifier
+-- if a row is empty for one code, it is empty for the next ones, up to where it reaches the next identifier
 pub none_in : (codes own : List ℕ) (row : Row) (k j : ℕ) → IsStrictlyIncreasing codes → IsStrictlyIncreasing own → k ≤ j → j < length own
     → start_of (get_or own k 0 + row.past) codes ≤ start_of (get_or own k 0 + row.first) codes
     → (k < j → start_of (get_or own k 0 + row.first) codes < length codes
@@ -160,7 +160,7 @@ none_in codes own row k j rise own_rises le lt empty below = ⊎_elim
     subst (λ (j : ℕ). count_in codes row (get_or own j 0) ≡ 0) here (omega (arith, empty)))
     (cases_lt k j)
 
--- ---- the codes of the blocks with a table rise
+-- ---- the codes of the blocks with a table ascend
 
 cons_rises : (x : ℕ) (xs : List ℕ) → IsStrictlyIncreasing xs → ((c : ℕ) → is_in xs c ≡ true → x < c) → IsStrictlyIncreasing (x ∷ xs)
 cons_rises x xs rise below zero lt = below (get_or xs 0 0) (at_in xs 0 (omega (arith, lt)))

@@ -1,4 +1,4 @@
--- Lists that are counted, and one more.
+-- Counted lists, and the next list.
 use Rattle.std.proofs.Common.{◌≡◌, ℕ, List, [], ◌∷◌, ◌++◌}
 use Rattle.std.specs.Global.{Vec}
 use Rattle.std.proofs.lemmas.List.{map-append}

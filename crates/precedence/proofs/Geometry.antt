@@ -1,4 +1,4 @@
--- Where the codes of a cone's blocks lie.
+-- The codes of a cone's blocks.
 use Rattle.std.proofs.Common.{◌≡◌, ℕ, ◌+◌, ◌-◌, ◌<◌, ◌≤◌, ◌&&◌, Bool, true, false, nat_lt, nat_le, max, refl, sym, ap, ◌∙◌, arith, if◌then◌else◌}
 use Rattle.std.specs.Int.{abs_diff}
 use Rattle.std.proofs.lemmas.Bool.{lt-ltb, ltb-true, ltb-false, le-leb}
@@ -14,7 +14,7 @@ use Rattle.precedence.specs.inner.Rows.{center, is_in_row}
 use Rattle.precedence.specs.declared.cones.cone_rows.SideCounts.{SideCounts}
 use Rattle.precedence.specs.declared.cones.cone_rows.Row.{Row}
 
--- `high` lies in the row i of the bench dz above `low`
+-- `high` is in the row i of the bench dz above `low`
 pub record IsAt (rows dz i : ℕ) (low high : Block) : Type 0 where
   pub bench : high.z ≡ low.z + dz
   pub row : high.y + rows ≡ low.y + i
@@ -30,7 +30,7 @@ module _ (grid : Grid) (cone : Cone) (rows dz i : ℕ) (low high : Block) (up : 
   same_rows : abs_diff low.y high.y ≡ abs_diff i rows
   same_rows = omega (arith, at.row)
 
-  -- only the slopes are left
+  -- only the test of the slopes remains
   pub above_is : is_above grid cone low high
       ≡ is_within_slopes grid (slope_along_x cone low high) (slope_across cone rows i) (abs_diff low.x high.x) (abs_diff i rows) dz
   above_is =
@@ -40,19 +40,19 @@ module _ (grid : Grid) (cone : Cone) (rows dz i : ℕ) (low high : Block) (up : 
       λ j. higher j && (near j && is_within_slopes grid (slope_along_x cone low high) (slope j)
       (abs_diff low.x high.x) (same_rows j) (same_rise j))
 
--- a code beside the middle of a row, on either side
+-- a code next to the middle of a row, on either side
 beside : (low high middle x y west east : ℕ) → high + x ≡ (low + middle) + y → 10000 ≤ middle → west ≤ 10000
     → (nat_le (low + (middle + 1 - west)) high && nat_lt high (low + (middle + max east 1)))
     ≡ (if nat_lt x y then nat_lt (y - x) east else nat_lt (x - y) west)
 beside low high middle x y west east e far few = grind (arith, nat_tests)
 
--- a row with these counts tells which of its blocks lie above
+-- a row with these counts has exactly the codes of its blocks above
 module _ (grid : Grid) (cone : Cone) (rows dz i : ℕ) (counts : SideCounts) (counted : CountsRow grid cone rows dz i counts)
     (low high : Block) (up : 1 ≤ dz) (within : dz ≤ cone.k) (small : rows < 10000) (at : IsAt rows dz i low high) where
   slopes : Slope → ℕ → Bool
   slopes along dx = is_within_slopes grid along (slope_across cone rows i) dx (abs_diff i rows) dz
 
-  -- the test on the side where `high` lies
+  -- the test on the side of `high`
   abbrev on_side : Bool → Bool
   on_side east = if east then nat_lt (high.x - low.x) counts.east else nat_lt (low.x - high.x) counts.west
 

@@ -1,4 +1,4 @@
--- The table of places, once sorted, numbers the blocks.
+-- The sorted table of cells numbers the blocks.
 use Rattle.std.proofs.Common.{◌≡◌, ℕ, ◌+◌, ◌<◌, Bool, true, false, List, [], ◌∷◌, All, Contains, length, map, get_or, cond, nat_lt, nat_eq, count_by, sym, ap, subst, ◌∙◌, arith}
 use Rattle.std.specs.Bool.{IsTrue}
 use Rattle.std.specs.List.{IsAllAdjacentAnswer, IsDistinct}
@@ -24,7 +24,7 @@ keys_moved : (listed : List Block) (entries : List (ℕ × ℕ)) → IsPermutati
     → IsPermutation (place_codes listed) (keys_of entries)
 keys_moved listed entries moved = rw (← keys-placed 0 listed) (IsPermutation-map (λ e. e.0) (placed 0 listed) entries moved)
 
--- the entries of blocks, sorted by place, rise where no two places of the blocks are the same
+-- the entries of blocks, sorted by cell, ascend strictly if no two blocks have the same cell
 pub keys_rise : (listed : List Block) (entries : List (ℕ × ℕ)) → IsPermutation (placed 0 listed) entries
     → IsNonDecreasingBy (λ e. e.0) entries → IsDistinct nat_eq (place_codes listed) → IsStrictlyIncreasing (keys_of entries)
 keys_rise listed entries moved sorted distinct = IsStrictlyIncreasing-from_distinct (keys_of entries) no_falls
@@ -38,7 +38,7 @@ keys_rise listed entries moved sorted distinct = IsStrictlyIncreasing-from_disti
         let high = get_or-map (λ (e : ℕ × ℕ). e.0) entries j (0, 0) d (omega arith) in
         omega (arith, sorted i j (0, 0) le (omega arith))
 
--- so they do where a test tells that each is below the next
+-- the entries ascend strictly if a test finds each below the next
 pub keys_told : (entries : List (ℕ × ℕ)) (r : Bool) → IsAllAdjacentAnswer (λ e f t. t ≡ nat_lt e.0 f.0) entries r → IsTrue r
     → IsStrictlyIncreasing (keys_of entries)
 keys_told entries false told passed k lt = absurd (false≢true passed)
@@ -91,7 +91,7 @@ module _ (listed : List Block) (entries : List (ℕ × ℕ)) (table : IsSortedTa
         ∙ ap (λ t. count_by (λ key. nat_lt key t) (keys_of entries)) (code_is k d lt)
         ∙ count_below (keys_of entries) k table.rising (omega (arith, length-map entries (λ (e : ℕ × ℕ). e.0), as_many))
 
-    -- the block at position i of the list has its place among the entries
+    -- an entry has the cell of the block at position i of the list
     place_of : (i : ℕ) (d : Block) → i < length listed → (k : ℕ) × (k < length listed) × (get_or positions k 0 ≡ i)
     place_of i d lt =
         let e : ℕ × ℕ = (place_code (get_or listed i d), i) in
@@ -103,7 +103,7 @@ module _ (listed : List Block) (entries : List (ℕ × ℕ)) (table : IsSortedTa
         let within : here.0 < length listed = omega (arith, here.1, as_many) in
         (here.0, within, position_is here.0 e within ∙ ap (λ e. e.1) (here.2 e))
 
-    -- and its identifier is that place
+    -- the identifier of the block is the entry's index
     id_at : (i : ℕ) (d : Block) (lt : i < length listed) → id listed (get_or listed i d) ≡ (place_of i d lt).0
     id_at i d lt =
         let at = place_of i d lt in
@@ -120,7 +120,7 @@ module _ (listed : List Block) (entries : List (ℕ × ℕ)) (table : IsSortedTa
       found = λ i d lt. ap (λ k. get_or positions k 0) (id_at i d lt) ∙ (place_of i d lt).2;
     }
 
-    -- the blocks rise
+    -- the blocks ascend
     pub blocks_rise : IsStrictlyIncreasing (place_codes blocks)
     blocks_rise =
         let keys = keys_of entries in
@@ -129,7 +129,7 @@ module _ (listed : List Block) (entries : List (ℕ × ℕ)) (table : IsSortedTa
         rw (same_number_lists (place_codes blocks) keys (omega (arith, as_many, as_many_positions, long))
         (λ k lt. code_at blocks k (get_or keys k 0) (omega arith) (λ d. code_is k d (omega (arith, as_many_positions, long))))) table.rising
       where
-        -- a block's code, where it is known of every default
+        -- a block's code, if it is known for every default
         code_at : (bs : List Block) (k c : ℕ) → k < length bs → ((d : Block) → place_code (get_or bs k d) ≡ c)
             → get_or (place_codes bs) k 0 ≡ c
         code_at [] k c lt h = absurd (omega arith)

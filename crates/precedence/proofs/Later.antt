@@ -1,4 +1,4 @@
--- A predecessor has a greater identifier.
+-- A predecessor has a larger identifier.
 use Rattle.std.proofs.Common.{◌≡◌, ℕ, ◌<◌, true, false, List, [], ◌∷◌, Contains, length, get_or, slice_get, ap, arith, ⊎_elim}
 use Rattle.std.specs.List.Sorted.{IsStrictlyIncreasing}
 use Rattle.std.proofs.lemmas.Bool.{cases_lt}
@@ -16,7 +16,7 @@ use Rattle.precedence.proofs.Members.{in_list}
 use Rattle.precedence.proofs.Order.{in_order}
 use Rattle.precedence.proofs.runs.Starts.{no_less}
 
--- of two blocks the one that comes before lies no higher
+-- a block that comes before another is on no higher bench
 no_higher : (a b : Block) → comes_before a b ≡ true → b.z < a.z → ⊥
 no_higher a b before less = let no : true ≡ false = grind (arith, nat_tests) in cc
 
@@ -52,31 +52,3 @@ come_later plan listed n b c numbering has = first n.blocks (within plan listed 
     first : (blocks : List Block) → b < length blocks → b < c
     first [] lt = absurd (omega arith)
     first (d ∷ ds) lt = later plan listed n numbering b c has d
-
--- the same of blocks whose places rise
-pub rising_later : (plan : PlanParts) (blocks : List Block) → IsStrictlyIncreasing (place_codes blocks) → ComeLater (preds plan blocks)
-rising_later plan blocks rising b c has = first blocks lt
-  where
-    lt : b < length blocks
-    lt = omega (arith, in_list (preds plan blocks) b c has, length-map blocks (λ (low : Block). above plan.grid (slice_get plan.cones low.zone) blocks low))
-
-    first : (bs : List Block) → b < length bs → b < c
-    first [] none = absurd (omega arith)
-    first (d ∷ ds) some =
-        let told = lies_higher plan blocks b c d lt has in
-        let low = get_or blocks b d in
-        let high = get_or blocks c d in
-        ⊎_elim
-        (λ lt. lt)
-        (λ le. absurd (omega (
-          arith,
-          told.1,
-          no_less (place_codes blocks) c b rising le (omega (arith, lt, length-map blocks place_code)),
-          get_or-map place_code blocks b d 0 lt,
-          get_or-map place_code blocks c d 0 told.0,
-          low.x_in_grid,
-          low.y_in_grid,
-          high.x_in_grid,
-          high.y_in_grid,
-        )))
-        (cases_lt b c)

@@ -1,4 +1,4 @@
--- What stands behind the laws of predecessors.
+-- The reasons for the theorems about predecessors.
 use Rattle.std.proofs.Common.{◌≡◌, ℕ, ◌+◌, ◌-◌, ◌*◌, ◌<◌, ◌≤◌, ◌==◌, ◌&&◌, Bool, true, false, List, [], ◌∷◌, Option, Some, None, All, Contains, filter, length, map, get_or, slice_get, nat_lt, nat_le, refl, sym, ap, ◌∙◌, arith, ⊎_elim, if◌then◌else◌}
 use Rattle.std.specs.Int.{abs_diff}
 use Rattle.std.specs.List.{range_with_len, list_any}
@@ -14,7 +14,7 @@ use Rattle.std.proofs.lemmas.List.FromFn.{get_or-range_with_len, length-range_wi
 use Rattle.std.proofs.lemmas.List.Kept.{IsStrictlyIncreasing-filter}
 use Rattle.std.proofs.lemmas.Option.{slice_get_within}
 use Rattle.plan_parts.specs.Plan.{PlanParts}
-use Rattle.plan_parts.specs.PlanKept.{IsCone}
+use Rattle.plan_parts.specs.PlanInvariant.{IsCone}
 use Rattle.plan_parts.specs.declared.block.Block.{Block}
 use Rattle.plan_parts.specs.declared.cone.Cone.{Cone}
 use Rattle.plan_parts.specs.declared.cone.Slope.{Slope}
@@ -26,9 +26,9 @@ use Rattle.precedence.specs.Numbering.{IsNumbering, NumberingView}
 use Rattle.precedence.proofs.AllLists.{all_at}
 use Rattle.precedence.proofs.PlacesWhere.{nowhere, where_at, where_filter}
 
--- ---- the slope of a side
+-- ---- the slope on a side
 
--- cones with the same slopes towards a block, and as high, see it alike
+-- cones with the same slopes towards a block and the same height contain it alike
 seen_alike : (grid : Grid) (one other : Cone) (low high : Block) → slope_along_x one low high ≡ slope_along_x other low high
     → slope_along_y one low high ≡ slope_along_y other low high → one.k ≡ other.k → is_above grid one low high ≡ is_above grid other low high
 seen_alike grid one other low high along across benches =
@@ -36,7 +36,7 @@ seen_alike grid one other low high along across benches =
     && (nat_le (high.z - low.z) (benches j)
     && is_within_slopes grid (along j) (across j) (abs_diff low.x high.x) (abs_diff low.y high.y) (high.z - low.z))
 
--- which slope is taken, where the other one changes
+-- the chosen slope, if the other one changes
 first_taken : (m n : ℕ) (first second other : Slope) → m < n → (if nat_lt m n then first else other) ≡ (if nat_lt m n then first else second)
 first_taken m n first second other less = by_test (nat_lt m n) (grind (arith, nat_tests))
   where
@@ -84,7 +84,7 @@ either : (b : Bool) (s : Slope) → (if b then s else s) ≡ s
 either true s = refl
 either false s = refl
 
--- the sides of the test with p for the rise and q for the run
+-- the test's sides with p for the rise and q for the run of the slope
 even_slopes : (grid : Grid) (slope : Slope) (dx dy dz : ℕ) → 1 ≤ slope.q
     → is_within_slopes grid slope slope dx dy dz
     ≡ nat_le (square slope.p * (square (dx * grid.x.size) + square (dy * grid.y.size))) (square slope.q * square (dz * grid.z.size))
@@ -181,10 +181,10 @@ pub lists_rise : (plan : PlanParts) (blocks : List Block) (i : ℕ) → i < leng
 lists_rise plan [] i lt = absurd (omega arith)
 lists_rise plan (b ∷ bs) i lt = rise_at plan (b ∷ bs) i b lt
 
--- ---- the list that was numbered
+-- ---- the numbered list
 
 module _ (listed : List Block) (n : NumberingView) (numbering : IsNumbering listed n) (p : Block → Bool) where
-  -- some block of the list has the identifier and passes, just where the block by that identifier passes
+  -- some block of the list has the identifier and passes, exactly if the block with that identifier passes
   some_passes : (k : ℕ) (d : Block) → k < length listed
       → list_any (λ high. (id listed high == k) && p high) listed ≡ p (get_or n.blocks k d)
   some_passes k d lt = ⊎_elim

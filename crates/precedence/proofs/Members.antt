@@ -1,12 +1,12 @@
--- What is in a list, and which list it can be in.
-use Rattle.std.proofs.Common.{◌≡◌, ℕ, ◌<◌, ◌≤◌, ◌==◌, ◌||◌, suc, true, List, [], ◌∷◌, Contains, length, get_or, refl, sym, ap, ◌∙◌, arith, ⊎_elim}
+-- Members of lists, and the lists that can have members.
+use Rattle.std.proofs.Common.{◌≡◌, ℕ, ◌<◌, ◌≤◌, ◌==◌, ◌||◌, zero, suc, Bool, true, false, cond, List, [], ◌∷◌, Contains, filter, length, get_or, refl, subst, sym, ap, ◌∙◌, arith, inl, inr, ⊎_elim, ◌⊎◌}
 use Rattle.std.specs.List.Sorted.{IsStrictlyIncreasing}
 use Rattle.std.proofs.lemmas.Bool.{cases_Bool, cases_lt, eq-eqb, eqb-true}
 use Rattle.std.proofs.lemmas.List.{get_or_past}
 use Rattle.std.proofs.lemmas.List.Folds.{list_any_at}
 use Rattle.precedence.specs.Closed.{HasArc}
 use Rattle.precedence.specs.IdRuns.{is_in}
-use Rattle.precedence.proofs.enough.Walks.{first_below, first_in, in_right, or_cases, tail_rises}
+use Rattle.precedence.proofs.Listed.{first_below, first_in, in_right, or_cases, tail_rises}
 
 pub tail_in : (x : ℕ) (xs : List ℕ) (c : ℕ) → Contains xs c → Contains (x ∷ xs) c
 tail_in x xs c has = (suc has.0, (let lt = has.1 in omega arith), has.2)
@@ -23,7 +23,7 @@ true_contains (x ∷ xs) c h = ⊎_elim
     tail_in x xs c (true_contains xs c rest))
     (cases_Bool (x == c))
 
--- two rising lists that have the same numbers
+-- two ascending lists with the same numbers are equal
 pub same_rising : (xs ys : List ℕ) → IsStrictlyIncreasing xs → IsStrictlyIncreasing ys → ((c : ℕ) → is_in xs c ≡ true → is_in ys c ≡ true)
     → ((c : ℕ) → is_in ys c ≡ true → is_in xs c ≡ true) → xs ≡ ys
 same_rising [] [] rx ry to back = refl
@@ -50,7 +50,62 @@ same_rising (x ∷ xs) (y ∷ ys) rx ry to back =
         (λ later. later)
         (or_cases (y == c) (is_in ys c) h)
 
--- a list that is not there is empty
+pub in_none : (c : ℕ) → Contains {X = ℕ} [] c → ⊥
+in_none c has = let lt = has.1 in omega arith
+
+pub head_in : (x : ℕ) (xs : List ℕ) → Contains (x ∷ xs) x
+head_in x xs = (0, omega arith, refl)
+
+pub cons_cases : (x : ℕ) (xs : List ℕ) (c : ℕ) → Contains (x ∷ xs) c → (x ≡ c) ⊎ Contains xs c
+cons_cases x xs c has = at has.0 has.1 has.2
+  where
+    at : (k : ℕ) → k < length (x ∷ xs) → get_or (x ∷ xs) k c ≡ c → (x ≡ c) ⊎ Contains xs c
+    at zero lt is = inl is
+    at (suc k) lt is = inr (k, omega arith, is)
+
+-- ---- filters
+
+module _ (test : ℕ → Bool) where
+  pub kept_in : (xs : List ℕ) (c : ℕ) → Contains xs c → test c ≡ true → Contains (filter test xs) c
+  kept_in [] c has passes = absurd (in_none c has)
+  kept_in (x ∷ xs) c has passes = ⊎_elim
+      (λ is.
+      let first : test x ≡ true = ap test is ∙ passes in
+      subst (λ all. Contains all c) (sym (ap (λ b. cond b (x ∷ filter test xs) (filter test xs)) first))
+      (subst (λ y. Contains (x ∷ filter test xs) y) is (head_in x (filter test xs))))
+      (λ later. by (test x) (kept_in xs c later passes))
+      (cons_cases x xs c has)
+    where
+      by : (b : Bool) → Contains (filter test xs) c → Contains (cond b (x ∷ filter test xs) (filter test xs)) c
+      by true rest = tail_in x (filter test xs) c rest
+      by false rest = rest
+
+  pub kept_from : (xs : List ℕ) (c : ℕ) → Contains (filter test xs) c → Contains xs c × (test c ≡ true)
+  kept_from [] c has = absurd (in_none c has)
+  kept_from (x ∷ xs) c has = ⊎_elim
+      (λ yes. ⊎_elim
+      (λ is. (subst (λ y. Contains (x ∷ xs) y) is (head_in x xs), ap test (sym is) ∙ yes))
+      (λ later. let rest = kept_from xs c later in (tail_in x xs c rest.0, rest.1))
+      (cons_cases x (filter test xs) c (subst (λ all. Contains all c) (ap (λ b. cond b (x ∷ filter test xs) (filter test xs)) yes) has)))
+      (λ no.
+      let rest = kept_from xs c (subst (λ all. Contains all c) (ap (λ b. cond b (x ∷ filter test xs) (filter test xs)) no) has) in
+      (tail_in x xs c rest.0, rest.1))
+      (cases_Bool (test x))
+
+  -- a filter keeps all members that pass, if all pass
+  pub all_kept : (xs : List ℕ) → ((c : ℕ) → Contains xs c → test c ≡ true) → filter test xs ≡ xs
+  all_kept [] pass = refl
+  all_kept (x ∷ xs) pass =
+      ap (λ b. cond b (x ∷ filter test xs) (filter test xs)) (pass x (head_in x xs))
+      ∙ ap (λ rest. x ∷ rest) (all_kept xs (λ c has. pass c (tail_in x xs c has)))
+
+-- ascending lists with the same members are equal
+pub one_list : (xs ys : List ℕ) → IsStrictlyIncreasing xs → IsStrictlyIncreasing ys → ((c : ℕ) → Contains xs c → Contains ys c)
+    → ((c : ℕ) → Contains ys c → Contains xs c) → xs ≡ ys
+one_list xs ys rx ry there back = same_rising xs ys rx ry
+    (λ c h. contains_true ys c (there c (true_contains xs c h))) (λ c h. contains_true xs c (back c (true_contains ys c h)))
+
+-- a missing list is empty
 pub in_list : (lists : List (List ℕ)) (b c : ℕ) → HasArc lists b c → b < length lists
 in_list lists b c has = ⊎_elim
     (λ lt. lt)

@@ -1,4 +1,4 @@
--- The order of identifiers is that of the codes.
+-- The order of identifiers is the order of the codes.
 use Rattle.std.proofs.Common.{◌≡◌, ℕ, ◌+◌, ◌<◌, ◌≤◌, true, List, [], ◌∷◌, length, get_or, cond, count_by, nat_eq, nat_lt, refl, sym, ◌∙◌, arith, ⊎_elim}
 use Rattle.std.proofs.lemmas.Bool.{cases_lt, lt-ltb}
 use Rattle.std.proofs.lemmas.Bool.Decides.{nat_tests}
@@ -14,7 +14,7 @@ before_is a b = grind (arith, nat_tests)
 pub same_is : (a b : Block) → is_same_place a b ≡ nat_eq (place_code a) (place_code b)
 same_is a b = grind (arith, nat_tests)
 
--- an identifier is how many codes are less
+-- an identifier is the number of smaller codes
 pub id_is : (bs : List Block) (b : Block) → id bs b ≡ count_by (λ c. nat_lt c (place_code b)) (place_codes bs)
 id_is [] b = refl
 id_is (a ∷ bs) b =

@@ -1,4 +1,4 @@
--- One list and its ends: one more part, and each part.
+-- One list and its ends: the next part, and each part.
 use Rattle.std.proofs.Common.{◌≡◌, ℕ, zero, suc, ◌+◌, ◌-◌, ◌<◌, ◌≤◌, List, [], ◌∷◌, ◌++◌, Some, length, take, drop, get_or, slice_get, sum_by, refl, sym, ap, ◌∙◌, arith, length-append, length-take, length-drop}
 use Rattle.std.proofs.Math.Seq.{drop-append_seam}
 use Rattle.std.proofs.lemmas.List.{take_all, take-append-le, drop-append-le}
@@ -27,7 +27,7 @@ pieces_push flat xs from (end ∷ ends) h =
     ∙ take-append-le (end - from) (drop from flat) xs (omega arith) in
     (λ i. first i ∷ pieces_push flat xs end ends h.1 i)
 
--- one more part, with its end
+-- the next part, with its end
 pub pushed : (flat xs now ends more : List ℕ) (end : ℕ) → AreEnds 0 ends (length flat) → now ≡ flat ++ xs → more ≡ ends ++ end ∷ []
     → end ≡ length now → AreEnds 0 more (length now) × (pieces now 0 more ≡ pieces flat 0 ends ++ xs ∷ [])
 pushed flat xs now ends more end h added is last =

@@ -1,4 +1,4 @@
--- The numbers of elements: one more, and of those that pass a test as a filter of all numbers.
+-- The numbers of elements that pass a test: with the next element, and as a filter of all numbers.
 use Rattle.std.proofs.Common.{◌≡◌, ℕ, zero, suc, ◌+◌, ◌<◌, ◌≤◌, ◌==◌, ◌||◌, Bool, true, false, List, [], ◌∷◌, ◌++◌, filter, length, length-take-le, take, get_or, refl, sym, ap, ◌∙◌, arith, if◌then◌else◌}
 use Rattle.std.specs.List.{enumerate_from, range_with_len}
 use Rattle.std.proofs.lemmas.List.{get_or_default, take_more}
@@ -12,7 +12,7 @@ numbered-append n [] ys = ap (λ k. enumerate_from k ys) (omega arith)
 numbered-append n (x ∷ xs) ys =
     ap (λ rest. (n, x) ∷ rest) (numbered-append (n + 1) xs ys ∙ ap (λ k. enumerate_from (n + 1) xs ++ enumerate_from k ys) (omega arith))
 
--- one element more, with its number
+-- the next element, with its number
 pub numbered_more : {X : Type 0} (xs : List X) (i : ℕ) (x : X) → i < length xs → x ≡ get_or xs i x
     → enumerate_from 0 (take (i + 1) xs) ≡ enumerate_from 0 (take i xs) ++ (i, x) ∷ []
 numbered_more xs i x h is =
@@ -35,7 +35,7 @@ where_filter test t n (x ∷ xs) h =
     let next : n + suc i ≡ (n + 1) + i = omega arith in h (suc i) d (omega arith) ∙ ap t next) in
     λ j. if first j then n ∷ rest j else rest j
 
--- where there is some element to take for those that are not there
+-- a default for elements beyond the end
 pub where_at : {X : Type 0} (test : X → Bool) (d : X) (xs : List X)
     → places_where test 0 xs ≡ filter (λ k. test (get_or xs k d)) (range_with_len 0 (length xs))
 where_at test d xs = where_filter test (λ k. test (get_or xs k d)) 0 xs (λ i e lt.
@@ -51,28 +51,28 @@ length-places_where test n (x ∷ xs) = one (test x) (length-places_where test (
     one true rest = omega (arith, rest)
     one false rest = omega (arith, rest)
 
--- ---- which numbers are told
+-- ---- members
 
--- one number in front
+-- one number before the others
 is_in_front : (t : Bool) (n m : ℕ) (rest : List ℕ) → (n == m) ≡ false → is_in (if t then n ∷ rest else rest) m ≡ is_in rest m
 is_in_front true n m rest other = ap (λ b. b || is_in rest m) other
 is_in_front false n m rest other = refl
 
--- none that is less than the first
+-- no number below the first
 none_before : {X : Type 0} (test : X → Bool) (n m : ℕ) (xs : List X) → m < n → is_in (places_where test n xs) m ≡ false
 none_before test n m [] lt = refl
 none_before test n m (x ∷ xs) lt =
     let other : (n == m) ≡ false = grind (arith, nat_tests) in
     is_in_front (test x) n m (places_where test (n + 1) xs) other ∙ none_before test (n + 1) m xs (omega arith)
 
--- nor one behind the last
+-- no number after the last
 none_behind : {X : Type 0} (test : X → Bool) (n m : ℕ) (xs : List X) → n + length xs ≤ m → is_in (places_where test n xs) m ≡ false
 none_behind test n m [] le = refl
 none_behind test n m (x ∷ xs) le =
     let other : (n == m) ≡ false = grind (arith, nat_tests) in
     is_in_front (test x) n m (places_where test (n + 1) xs) other ∙ none_behind test (n + 1) m xs (omega arith)
 
--- the first, where the first element passes
+-- the first number, if the first element passes
 is_in_first : (t : Bool) (n : ℕ) (rest : List ℕ) → is_in rest n ≡ false → is_in (if t then n ∷ rest else rest) n ≡ t
 is_in_first true n rest none = let same : (n == n) ≡ true = grind (arith, nat_tests) in ap (λ b. b || is_in rest n) same
 is_in_first false n rest none = none
@@ -88,7 +88,7 @@ told_at test n m (suc k) (x ∷ xs) d lt is =
     let other : (n == m) ≡ false = grind (arith, nat_tests) in
     is_in_front (test x) n m (places_where test (n + 1) xs) other ∙ told_at test (n + 1) m k xs d (omega arith) (omega arith)
 
--- just those of elements that pass
+-- exactly the numbers of elements that pass
 pub told_where : {X : Type 0} (test : X → Bool) (k : ℕ) (xs : List X) (d : X) → k < length xs
     → is_in (places_where test 0 xs) k ≡ test (get_or xs k d)
 told_where test k xs d lt = told_at test 0 k k xs d lt (omega arith)

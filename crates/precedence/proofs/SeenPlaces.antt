@@ -1,4 +1,4 @@
--- The table of places: its keys, its positions, and what a look-up says.
+-- The table of cells: its keys, its positions, and the result of a look-up.
 use Rattle.std.proofs.Common.{◌≡◌, ℕ, ◌+◌, ◌<◌, false, List, [], ◌∷◌, ◌++◌, Some, All, length, take, get_or, nat_eq, refl, sym, ap, subst, ◌∙◌, arith}
 use Rattle.std.specs.Map.{keys_of, lookup}
 use Rattle.std.specs.List.{enumerate_from, IsDistinct}
@@ -30,7 +30,7 @@ placed_at n bs i d e lt =
     get_or-map with_place (enumerate_from n bs) i (0, d) e (omega (arith, length-enumerate_from n bs))
     ∙ ap with_place (get_or-enumerate_from n bs i (0, d) lt)
 
--- every entry has the position and the place of a block
+-- every entry has the position and the cell of a block
 pub all_placed : (listed : List Block) → All (IsPlaced listed) (placed 0 listed)
 all_placed [] k e lt = absurd (omega arith)
 all_placed (b ∷ bs) k e lt =
@@ -40,7 +40,7 @@ all_placed (b ∷ bs) k e lt =
     let there : (get_or (placed 0 listed) k e).1 ≡ k = ap (λ (p : ℕ × ℕ). p.1) (own b) ∙ omega arith in
     (omega (arith, there), λ d. ap (λ i. place_code (get_or listed i d)) there ∙ sym (ap (λ (p : ℕ × ℕ). p.0) (own d)))
 
--- blocks whose table has no place twice stand at different places
+-- blocks whose table has no cell twice are in different cells
 pub apart : (bs : List Block) (i j : ℕ) (d : Block) → IsDistinct nat_eq (keys_of (placed 0 bs)) → i < j → j < length bs
     → is_same_place (get_or bs i d) (get_or bs j d) ≡ false
 apart bs i j d distinct lt within =
@@ -50,7 +50,7 @@ apart bs i j d distinct lt within =
     same_is (get_or bs i d) (get_or bs j d) ∙ (λ t. nat_eq (code i (omega arith) t) (code j within t))
     ∙ apart_from_distinct nat_eq (place_codes bs) i j 0 (subst (IsDistinct nat_eq) (keys-placed 0 bs) distinct) lt (omega arith)
 
--- a table of the blocks before this one, with this one's place behind it, is that of one block more
+-- the table of the blocks before a block, with its own cell appended, is the table including the block
 pub placed_on : (listed : List Block) (position place : ℕ) (block : Block) (table more : List (ℕ × ℕ)) → position < length listed
     → block ≡ get_or listed position block → place ≡ place_code block → table ≡ placed 0 (take position listed)
     → more ≡ table ++ (place, position) ∷ []
@@ -58,7 +58,7 @@ pub placed_on : (listed : List Block) (position place : ℕ) (block : Block) (ta
 placed_on listed position place block table more lt is at before push =
     rw (numbered_more listed position block lt is, map-append) (push ∙ (λ j. before j ++ (at j, position) ∷ []))
 
--- the refusal at a place that the table has
+-- the error at a cell that the table has
 pub first_again : (listed : List Block) (first again c : ℕ) → again < length listed
     → ((d : Block) → place_code (get_or listed again d) ≡ c)
     → lookup (nat_eq c) (placed 0 (take again listed)) ≡ Some first

@@ -1,4 +1,4 @@
--- Row by row and bench by bench, the rows of a cone tell which block lies above which.
+-- Row by row and bench by bench, the rows of a cone contain exactly the blocks above.
 use Rattle.std.proofs.Common.{◌≡◌, ℕ, ◌+◌, ◌-◌, ◌*◌, ◌^◌, ◌<◌, ◌≤◌, ◌&&◌, ◌||◌, Bool, true, false, List, [], ◌∷◌, ◌++◌, nat_lt, nat_le, max, min, refl, sym, ap, ◌∙◌, arith, ⊎_elim}
 use Rattle.std.proofs.Math.Bool.{and-false, or-false, or_assoc}
 use Rattle.std.proofs.lemmas.Bool.{cases_lt, lt-ltb, le-ltb, ltb-true, leb-true, and_parts}
@@ -34,37 +34,37 @@ pub apart_more : (low : ℕ) (rows : List Row) (high up : ℕ) → LieApart low 
 apart_more low [] high up h le = omega arith
 apart_more low (r ∷ rows) high up h le = (h.0, h.1, apart_more r.past rows high up h.2 le)
 
--- no row is past further than all are
+-- every row ends at the common end or before
 pub apart_all : (low : ℕ) (rows : List Row) (high : ℕ) → low ≤ 10 ^ 15 → LieApart low rows high → LieApart low rows (10 ^ 15)
 apart_all low [] high le h = le
 apart_all low (row ∷ rows) high le h = (h.0, h.1, apart_all row.past rows high (omega (arith, row.small)) h.2)
 
--- ---- where the codes of pairs of blocks lie
+-- ---- the codes of pairs of blocks
 
 module _ (extent : Extent) (low high : Block) (near : IsWithin extent low high) where
-  -- between two edges lies just the row
+  -- between two edges is exactly the row
   at_row : (dz i : ℕ) → 1 ≤ dz → i ≤ 2 * extent.rows → place_code low + edge extent.rows dz i ≤ place_code high
       → place_code high < place_code low + edge extent.rows dz (i + 1) → IsAt extent.rows dz i low high
   at_row dz i up within above below =
       let bench : high.z ≡ low.z + dz = omega arith in
       record { bench = bench; row = omega arith }
 
-  -- between the last row of a bench and the next bench lies none
+  -- between the last row of a bench and the next bench is nothing
   between_benches : (dz : ℕ) → nat_lt (place_code high) (place_code low + edge extent.rows dz (2 * extent.rows + 1))
       ≡ nat_lt (place_code high) (place_code low + edge extent.rows (dz + 1) 0)
   between_benches dz = grind (arith, nat_tests)
 
-  -- a block on a higher bench lies past the first edge
+  -- a block on a higher bench is at the first edge or after
   past_first : low.z < high.z → place_code low + edge extent.rows 1 0 ≤ place_code high
   past_first lt = omega arith
 
-  -- a block at most `top` benches higher lies before the edge after them
+  -- a block at most `top` benches higher is before the edge after them
   before_last : (top : ℕ) → high.z ≤ low.z + top → place_code high < place_code low + edge extent.rows (top + 1) 0
   before_last top le = omega arith
 
--- ---- one more row
+-- ---- the next row
 
--- a row between two edges adds what it tells of the codes between them
+-- a row between two edges adds exactly the blocks above with codes between them
 between : (high low edge next first past : ℕ) (above : Bool) → edge ≤ first → past ≤ next → first ≤ past
     → (low + edge ≤ high → high < low + next → (nat_le (low + first) high && nat_lt high (low + past)) ≡ above)
     → ((nat_lt high (low + edge) && above) || (nat_le (low + first) high && nat_lt high (low + past))) ≡ (nat_lt high (low + next) && above)
@@ -86,7 +86,7 @@ module _ (grid : Grid) (cone : Cone) (extent : Extent) (dz i : ℕ) (up : 1 ≤ 
   before_edge : row.past ≤ edge extent.rows dz (i + 1)
   before_edge = omega arith
 
-  -- the row tells of the blocks between its edges
+  -- the row contains exactly the blocks above between its edges
   row_adds : (low high : Block) → IsWithin extent low high
       → ((nat_lt (place_code high) (place_code low + edge extent.rows dz i) && is_above grid cone low high) || is_in_row (place_code low) row (place_code high))
       ≡ (nat_lt (place_code high) (place_code low + edge extent.rows dz (i + 1)) && is_above grid cone low high)
@@ -120,9 +120,9 @@ module _ (grid : Grid) (cone : Cone) (extent : Extent) (dz i : ℕ) (up : 1 ≤ 
         ∙ row_adds low high near;
   }
 
--- ---- one more bench, and all
+-- ---- the next bench, and all benches
 
--- of two tests, where what passes the second passes the first, or does not
+-- two tests, if every value that passes the second passes the first, or none does
 always : (p q : Bool) → (q ≡ true → p ≡ true) → (p && q) ≡ q
 always true q h = refl
 always false true h = h refl
@@ -149,7 +149,7 @@ module _ (grid : Grid) (cone : Cone) (extent : Extent) where
     told = λ low high near. h.told low high near ∙ ap (λ b. b && is_above grid cone low high) (between_benches extent low high near dz);
   }
 
-  -- a block above is on one of the benches looked at
+  -- a block above is on one of the benches
   high_enough : (low high : Block) → IsWithin extent low high → is_above grid cone low high ≡ true
       → high.z ≤ low.z + min cone.k extent.benches
   high_enough low high near lies =
@@ -158,7 +158,7 @@ module _ (grid : Grid) (cone : Cone) (extent : Extent) where
       (and_parts (nat_le (high.z - low.z) cone.k) _ (and_parts (nat_lt low.z high.z) _ lies).1).0 in
       omega (arith, ltb-true low.z high.z higher, leb-true _ _ looked, near.benches)
 
-  -- they tell of blocks that are less far apart
+  -- the rows are correct for a smaller extent
   pub narrower : (other : Extent) (rows : List Row) → IsWider extent other → IsTable grid cone extent rows → IsTable grid cone other rows
   narrower other rows wide h = record {
     high = h.high;

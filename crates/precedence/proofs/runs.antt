@@ -1,7 +1,6 @@
 pub mod Alike
 pub mod Beside
 pub mod Even
-pub mod Moving
 pub mod RowOfCode
 pub mod RunLists
 pub mod RunsOfRows

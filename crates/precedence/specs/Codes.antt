@@ -1,9 +1,9 @@
--- One number for a block's place, in the order of identifiers.
+-- A linear index for each cell, in the order of identifiers.
 use Rattle.std.specs.Prelude.{ℕ, ◌+◌, ◌*◌, List, map}
 use Rattle.plan_parts.specs.declared.block.Block.{Block}
 use Rattle.precedence.specs.declared.places.code.TheConstants.{BENCH, ROW}
 
--- rows are so far apart that a number some thousands beside a block's belongs to no other row
+-- rows are so far apart that a code some thousands from a block's code belongs to no other row
 abbrev pub place_code : Block → ℕ
 place_code b = b.z * BENCH + b.y * ROW + b.x
 

@@ -24,7 +24,7 @@ is_within_slopes grid slope_x slope_y dx dy dz =
     (square (dx * (grid.x.size * slope_x.p * slope_y.q)) + square (dy * (grid.y.size * slope_y.p * slope_x.q)))
     (square (dz * (grid.z.size * slope_x.q * slope_y.q)))
 
--- `high` is 1 to k benches above `low`, inside the slopes
+-- `high` is 1 to k benches above `low` and inside the slopes
 abbrev pub is_above : Grid → Cone → Block → Block → Bool
 is_above grid cone low high =
     nat_lt low.z high.z

@@ -1,4 +1,4 @@
--- Other words for a cone and for predecessors, which laws compare with their definitions.
+-- Alternative definitions of cones and predecessors, which theorems compare with the first ones.
 use Rattle.std.specs.Prelude.{◌≡◌, ℕ, ◌+◌, ◌-◌, ◌*◌, ◌==◌, ◌&&◌, Bool, false, List, [], Option, Some, None, map, nat_lt, nat_le, slice_get}
 use Rattle.std.specs.Int.{abs_diff}
 use Rattle.std.specs.List.{list_any}
@@ -27,20 +27,20 @@ is_above_by grid slope k low high =
 abbrev pub IsEven : Cone → Type 0
 IsEven cone = cone ≡ even_cone cone.east cone.k
 
--- the identifiers of the blocks that the test with one slope takes in above a block
+-- the identifiers of the blocks above a block by the one-slope test
 abbrev pub above_by : Grid → Option Cone → List Block → Block → List ℕ
 above_by grid (Some cone) blocks low = places_where (is_above_by grid cone.east cone.k low) 0 blocks
 above_by grid None blocks low = []
 
--- the predecessors of each block by identifier, by the test with one slope
+-- the predecessors of each block by identifier, by the one-slope test
 abbrev pub preds_by : PlanParts → List Block → List (List ℕ)
 preds_by plan blocks = map (λ low. above_by plan.grid (slice_get plan.cones low.zone) blocks low) blocks
 
--- `high` is a predecessor of `low`, by the cone of the zone of `low`
+-- `high` is a predecessor of `low` by the cone of the zone of `low`
 abbrev pub is_pred_by : Grid → Option Cone → Block → Block → Bool
 is_pred_by grid (Some cone) low high = is_above grid cone low high
 is_pred_by grid None low high = false
 
--- some block of a list, in whatever order, has this identifier and is a predecessor of `low`
+-- some block of a list, in any order, has this identifier and is a predecessor of `low`
 abbrev pub has_pred : PlanParts → List Block → Block → ℕ → Bool
 has_pred plan listed low k = list_any (λ high. (id listed high == k) && is_pred_by plan.grid (slice_get plan.cones low.zone) low high) listed

@@ -1,5 +1,5 @@
--- The identifiers of the blocks of a list: the number of blocks of the whole list that come before, ordered by bench, then from south to
--- north, then from west to east.
+-- The identifiers of listed blocks: the number of blocks of the whole list that come before, ordered by bench, then from south to north,
+-- then from west to east.
 use Rattle.std.specs.Prelude.{◌≡◌, ℕ, ◌<◌, ◌==◌, ◌&&◌, ◌||◌, Bool, true, false, List, length, map, count_by, nat_lt, slice_index_or}
 use Rattle.plan_parts.specs.declared.block.Block.{Block}
 use Rattle.rows.specs.declared.item.Valued.{Valued}
@@ -20,7 +20,7 @@ id listed b = count_by (λ a. comes_before a b) listed
 abbrev pub is_same_place : Block → Block → Bool
 is_same_place a b = (a.x == b.x) && (a.y == b.y) && (a.z == b.z)
 
--- `again` is the first position whose cell is that of an earlier position, and `first` is that earlier position
+-- `again` is the first position whose cell is the cell of an earlier position, and `first` is that earlier position
 pub record IsFirstAgain (listed : List Block) (first again : ℕ) : Type 0 where
   pub before : first < again
   pub within : again < length listed

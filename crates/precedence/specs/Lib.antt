@@ -3,10 +3,8 @@ pub mod Closed
 pub mod Codes
 pub mod Cone
 pub mod ConeLaws
-pub mod Enough
 pub mod IdRuns
 pub mod Identifier
-pub mod Moved
 pub mod Numbering
 pub mod SameBlock
 pub mod Zones

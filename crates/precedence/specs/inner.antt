@@ -1,15 +1,14 @@
 pub mod Alike
 pub mod Arcs
 pub mod Beside
+pub mod Between
 pub mod FoundFields
 pub mod Lists
 pub mod NumberingFields
 pub mod PredsFields
 pub mod Reach
-pub mod Rest
 pub mod Rows
 pub mod RowsOnce
 pub mod Seen
-pub mod States
-pub mod Steps
 pub mod ZoneTables
+pub mod lanes

@@ -1,4 +1,4 @@
-//! The rows of cones: how many blocks of each they take in, and their tables by zone.
+//! The rows of cones, the numbers of blocks in them, and the tables of cone rows by zone.
 
 pub mod block_cones;
 pub mod bounds;

@@ -1,18 +1,17 @@
-//! The identifiers of a model's blocks, and the blocks that each has to wait for.
+//! The identifiers of a model's blocks, and the predecessors of each block.
 #![tactic(auto)]
 
 mod cones;
-mod cuts;
+mod lanes;
 pub mod laws;
 mod lists;
 mod numbering;
 mod places;
 
 pub use lists::counted_preds::CountedPreds;
-pub use lists::enough_preds::EnoughPreds;
 pub use lists::found_preds::{FoundPreds, preds};
 pub use lists::id_run::IdRun;
-pub use lists::ids_as_runs::{add_moved_runs, add_runs_of_ids};
+pub use lists::ids_as_runs::add_runs_of_ids;
 pub use lists::made_lists::{LentLists, MadeLists};
 pub use lists::pred_lists::PredLists;
 pub use lists::predecessors::Preds;

@@ -14,8 +14,8 @@ pub mod number_rows;
 pub mod place_hashes;
 pub mod same;
 
-/// The blocks of a model in the order of their identifiers, 0, 1, 2, .., and the position of each in the list that was numbered.
-/// Contracts see it as the record of the two.
+/// The blocks of a model in the order of their identifiers 0, 1, 2, .., and the position of each in the numbered list. Contracts see a
+/// record of both.
 #[derive(Debug, Drop)]
 pub struct Numbering {
     blocks: Vec<Block>,
@@ -35,7 +35,7 @@ impl Model for Numbering {
 }
 
 impl Numbering {
-    // The numbering of these columns.
+    // Returns the numbering with these columns.
     pub(crate) fn new(blocks: Vec<Block>, positions: Vec<u32>) -> Numbering
         requires rising { IsStrictlyIncreasing (place_codes blocks.items) }
         requires placed { length positions.items ≡ length blocks.items }
@@ -46,7 +46,7 @@ impl Numbering {
         Numbering { blocks, positions }
     }
 
-    /// The number of blocks, at most 64,000,000.
+    /// Returns the number of blocks, at most 64,000,000.
     pub fn len(&self) -> u32
         ensures value { result ≡ length self.now.blocks }
         ensures positions { length self.now.positions ≡ result }
@@ -55,7 +55,7 @@ impl Numbering {
         self.blocks.len() as u32
     }
 
-    /// The block of an identifier.
+    /// Returns the block with the identifier `id`.
     pub fn block(&self, id: u32) -> Block
         requires { id < length self.now.blocks }
         ensures { slice_get self.now.blocks id ≡ Some result }
@@ -63,7 +63,7 @@ impl Numbering {
         self.blocks[id as usize]
     }
 
-    /// The position in the list, from 0, of the block of an identifier.
+    /// Returns the position in the list, from 0, of the block with the identifier `id`.
     pub fn position(&self, id: u32) -> u32
         requires { id < length self.now.blocks }
         ensures { result ≡ slice_index self.now.positions id }
@@ -71,7 +71,7 @@ impl Numbering {
         self.positions[id as usize]
     }
 
-    /// The blocks in the order of their identifiers.
+    /// Returns the blocks in the order of their identifiers.
     pub fn blocks(&self) -> &[Block]
         ensures value { result.now ≡ self.now.blocks }
         ensures rising { IsStrictlyIncreasing (place_codes self.now.blocks) }
@@ -80,7 +80,7 @@ impl Numbering {
         self.blocks.as_slice()
     }
 
-    /// The position in the list, from 0, of the block of each identifier.
+    /// Returns each block's position in the list, from 0, in the order of identifiers.
     pub fn positions(&self) -> &[u32]
         ensures value { result.now ≡ self.now.positions }
         ensures each { length self.now.positions ≡ length self.now.blocks }
@@ -89,7 +89,7 @@ impl Numbering {
         self.positions.as_slice()
     }
 
-    /// The blocks in the order of their identifiers, and the position in the list, from 0, of each.
+    /// Returns the blocks in the order of their identifiers, and the position of each in the list, from 0.
     pub fn into_parts(self) -> (Vec<Block>, Vec<u32>)
         ensures blocks { result.0.items ≡ self.blocks }
         ensures positions { result.1.items ≡ self.positions }

@@ -22,9 +22,9 @@ pub mod start_of;
 #[derive(Debug, Drop)]
 pub struct Places {
     pub codes: Vec<u64>,
-    /// Where the blocks of each chunk of identifiers lie along x.
+    /// The span along x of each chunk of identifiers.
     pub spans: Vec<Span>,
-    /// Whether it is worth to look at these.
+    /// Whether looking at the spans saves time.
     pub sparse: bool,
     pub ghost rising: { IsStrictlyIncreasing codes.items },
     pub ghost few: { length codes.items ≤ MAX_BLOCKS },
@@ -32,7 +32,7 @@ pub struct Places {
     pub ghost spanned: { AreSpans spans.items codes.items },
 }
 
-/// The places of blocks that stand in the order of their identifiers.
+/// Returns the codes and spans of blocks that are ordered by identifier.
 pub fn places_of(alloc: Global, blocks: &[Block]) -> Result<Places, AllocError>
     requires rising { IsStrictlyIncreasing (place_codes blocks.now) }
     requires few { length blocks.now ≤ MAX_BLOCKS }

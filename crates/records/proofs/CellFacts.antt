@@ -1,4 +1,4 @@
--- What a cell and a record lose at their ends.
+-- The ends that cells and records lose.
 use Rattle.std.proofs.Common.{All, ◌≡◌, ◌<◌, ◌==◌, ◌+◌, ◌-◌, ◌++◌, ℕ, zero, suc, List, [], ◌∷◌, Bool, true, false, arith, refl, sym, ◌∙◌, ap, length, length-append, get_or, map, take, cond, Some, None}
 use Rattle.std.proofs.lemmas.Bool.{eqb-true}
 use Rattle.std.proofs.lemmas.List.{take_more, take_all, length-map, length-take-le}
@@ -9,25 +9,25 @@ use Rattle.csv.specs.Records.{field_at}
 use Rattle.records.specs.Cells.{is_blank, kept_from, without_end, without_trailing_blanks, trimmed}
 use Rattle.records.specs.RecordCells.{without_empty_end, cells_of, cell_at}
 
--- a list is what stands before its last element, and that
+-- a list is the elements before its last one, followed by the last one
 pub split_last : {A : Type 0} (xs : List A) (d : A) → 0 < length xs → take (length xs - 1) xs ++ get_or xs (length xs - 1) d ∷ [] ≡ xs
 split_last xs d h =
     let i : length xs - 1 < length xs = omega arith in
     let e : (length xs - 1) + 1 ≡ length xs = omega arith in
     sym (take_more xs (length xs - 1) d i) ∙ ap (λ n. take n xs) e ∙ take_all (length xs) xs (omega arith)
 
--- an element at the end that passes goes
+-- an element at the end that passes is dropped
 end_goes : {A : Type 0} (passes : A → Bool) (xs : List A) (x : A) → passes x ≡ true
     → without_end passes (xs ++ x ∷ []) ≡ without_end passes xs
 end_goes passes [] x h = rw h refl
 end_goes passes (y ∷ xs) x h = rw (end_goes passes xs x h) refl
 
--- an element stays before some that do
+-- an element before retained ones is retained
 before_some : {A : Type 0} (passes : A → Bool) (x : A) (kept : List A) → 0 < length kept → kept_from passes x kept ≡ x ∷ kept
 before_some passes x [] some = absurd (omega arith)
 before_some passes x (y ∷ kept) some = refl
 
--- another stays, and so do all before it
+-- another element is retained, and so are all before it
 end_stays : {A : Type 0} (passes : A → Bool) (xs : List A) (x : A) → passes x ≡ false
     → without_end passes (xs ++ x ∷ []) ≡ xs ++ x ∷ []
 end_stays passes [] x h = rw h refl
@@ -57,7 +57,7 @@ empty_is : {A : Type 0} (xs : List A) → (length xs == 0) ≡ true → xs ≡ [
 empty_is [] h = refl
 empty_is (x ∷ xs) h = absurd (omega (arith, eqb-true (suc (length xs)) 0 h))
 
--- dropping the empty cells at the end changes no cell, where a cell past the end is empty
+-- dropping the empty cells at the end changes no cell, since a cell after the end counts as empty
 pub cell_stays : (cells : List (List ℕ)) (i : ℕ) → get_or (without_empty_end cells) i [] ≡ get_or cells i []
 cell_stays [] i = refl
 cell_stays (c ∷ cells) i = by_kept (without_empty_end cells) (λ k. cell_stays cells k) i
@@ -75,11 +75,11 @@ cell_stays (c ∷ cells) i = by_kept (without_empty_end cells) (λ k. cell_stays
     by_kept (d ∷ kept) more zero = refl
     by_kept (d ∷ kept) more (suc i) = more i
 
--- the cell at a place is the field there, trimmed, or empty
+-- the cell at a place is the trimmed field there, or empty
 pub at_cell : (fields : List (List ℕ)) (i : ℕ) → cell_at (cells_of fields) i ≡ trimmed (get_or fields i [])
 at_cell fields i = cell_stays (map trimmed fields) i ∙ get_or-map trimmed fields i []
 
--- the field there, by what csv answers for the place
+-- the field there, by csv's result for the place
 pub field_there : (fields : List (List ℕ)) (i : ℕ) (field : List ℕ) → field_at fields i ≡ Some field → field ≡ get_or fields i []
 field_there fields i field h = sym (field-get fields i field h)
 
@@ -89,7 +89,7 @@ none_there [] i h = refl
 none_there (f ∷ fields) zero h = absurd (cc)
 none_there (f ∷ fields) (suc i) h = none_there fields i h
 
--- counting cells in turn: after one more, the count is the place past it where it is not empty
+-- counting cells one by one: after the next cell, the count is its place + 1 if it is not empty
 pub one_empty : (fields : List (List ℕ)) (i n : ℕ) → i < length fields → (length (cell_at (cells_of fields) i) == 0) ≡ true
     → n ≡ length (without_empty_end (take i (map trimmed fields))) → n ≡ length (without_empty_end (take (i + 1) (map trimmed fields)))
 one_empty fields i n h e counted =

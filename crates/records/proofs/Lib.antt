@@ -1,3 +1,3 @@
 pub mod CellFacts
+pub mod ReadAgain
 pub mod RecordSteps
-pub mod ToldAgain

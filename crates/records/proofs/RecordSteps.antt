@@ -1,4 +1,4 @@
--- A record of a text takes a byte at least, so that reading all of them ends, and taking them one at a time gives them all.
+-- A record of a text has at least one byte, so reading all records ends, and taking them one at a time returns all.
 use Rattle.std.proofs.Common.{◌≡◌, ◌+◌, ◌-◌, ◌<◌, ◌≤◌, Bool, true, false, ℕ, zero, suc, List, [], ◌∷◌, ◌++◌, length, Option, Some, None, IfSome, All, if◌then◌else◌, refl, ap, ◌∙◌, arith, rules, inl, length-append}
 use Rattle.std.proofs.lemmas.List.Elements.{All-nil, All-cons}
 use Rattle.csv.specs.Machine.{Read, step, is_end, ends_at_end, field_after, fields_after, next_record}
@@ -12,17 +12,17 @@ use Rattle.csv.specs.declared.reader.Trim.TheVariants as trim
 use Rattle.records.specs.Records.{records_of}
 use Rattle.records.specs.inner.RecordsAhead.{IsBetweenRecords, TakesNext, rows_from}
 
--- a byte that ends a record leaves the machine where the end of the text ends none
+-- a byte that ends a record puts the machine in a state in which the end of the text ends no record
 ends-between : (s : State) (c : ℕ) → is_end (step default_config s c).1 ≡ true → ends_at_end (step default_config s c).0 ≡ false
 ends-between st.StartRecord c h = grind rules
 ends-between other c h = grind rules
 
--- a record that ends has the field at hand as its last one
+-- a record that ends has the current field as its last one
 ends-with-cell : (a : Action) (fields : List (List ℕ)) (field : List ℕ) → is_end a ≡ true → 0 < length (fields_after a fields field)
 ends-with-cell act.EndRecord fields field h = rw (length-append fields (field ∷ [])) (omega arith)
 ends-with-cell other fields field h = cc h
 
--- what a read of a record leaves: a state between records, a cell at least, and no more than so many bytes
+-- after the read of a record: a state between records, at least one cell, and at most `most` unread bytes
 record Leaves (read : Read) (most : ℕ) : Type 0 where
   between : ends_at_end read.1 ≡ false
   cells : 0 < length read.0
@@ -32,7 +32,7 @@ leaves-more : (found : Option Read) (n m : ℕ) → n ≤ m → IfSome found (λ
 leaves-more None n m h l = tt
 leaves-more (Some read) n m h l = record { between = l.between; cells = l.cells; bytes = omega (arith, l.bytes, h) }
 
--- of bytes, one at least is taken
+-- at least one byte is taken, if there are bytes
 leaves : (state : State) (fields : List (List ℕ)) (field bytes : List ℕ)
     → IfSome (next_record default_config state fields field bytes) (λ read. Leaves read (length bytes - 1))
 unfolding next_record
@@ -60,7 +60,7 @@ leaves state fields field (c ∷ rest) =
     })
     by false h more = rw h more
 
--- what a read between two records leaves
+-- after a read between two records
 abbrev Taken : List ℕ → Read → Type 0
 Taken bytes read = (ends_at_end read.1 ≡ false) × (0 < length read.0) × (length read.2 < length bytes)
 
@@ -74,7 +74,7 @@ takes state (c ∷ rest) h = longer (next_record default_config state [] [] (c �
     longer None l = tt
     longer (Some read) l = (l.between, l.cells, omega (arith, l.bytes))
 
--- the records do not depend on how many are asked for, once there are enough
+-- the records do not depend on the requested number, once it is large enough
 enough : (n m : ℕ) (state : State) (bytes : List ℕ) → ends_at_end state ≡ false → length bytes < n → length bytes < m
     → records_from default_config n state bytes ≡ records_from default_config m state bytes
 unfolding records_from
@@ -90,7 +90,7 @@ enough (suc n) (suc m) state bytes h a b =
     by None t more = refl
     by (Some read) t more = ap (λ rows. read.0 ∷ rows) (more read.1 read.2 t.0 (omega (arith, t.2, a)) (omega (arith, t.2, b)))
 
--- a text has no more records than bytes, and each has a cell
+-- the number of a text's records is at most the number of its bytes, and each record has a cell
 kept : (n : ℕ) (state : State) (bytes : List ℕ) → ends_at_end state ≡ false
     → (length (records_from default_config n state bytes) ≤ length bytes)
     × All (λ row. 0 < length row) (records_from default_config n state bytes)
@@ -116,7 +116,7 @@ shorter-text (a ∷ b ∷ c ∷ rest) = by (is_bom a b c)
     by false = omega arith
 shorter-text _ = omega arith
 
--- a text has no more records than bytes, and none without a cell
+-- the number of a text's records is at most the number of its bytes, and no record is without a cell
 pub few_records : (text : List ℕ) → length (records_of text) ≤ length text
 few_records text =
     let all = kept (length (strip_bom text) + 1) st.StartRecord (strip_bom text) refl in omega (arith, all.0, shorter-text text)
@@ -124,7 +124,7 @@ few_records text =
 pub records_have_cells : (text : List ℕ) → All (λ row. 0 < length row) (records_of text)
 records_have_cells text = (kept (length (strip_bom text) + 1) st.StartRecord (strip_bom text) refl).1
 
--- one read of the bytes that are left takes the first of the records ahead, or finds none
+-- a read of the unread bytes takes the first remaining record, or finds none
 rows-next : (state : State) (bytes : List ℕ) → ends_at_end state ≡ false
     → rows_from state bytes ≡ records_next rows_from (next_record default_config state [] [] bytes)
 unfolding records_from
@@ -137,7 +137,7 @@ rows-next state bytes h =
     by None t = refl
     by (Some read) t = ap (λ rows. read.0 ∷ rows) (enough (length bytes) (length read.2 + 1) read.1 read.2 t.0 t.2 (omega arith))
 
--- what a read shows of the records ahead
+-- what a read shows of the remaining records
 shows : (state after : State) (bytes rest : List ℕ) (found : Bool) (fields : List (List ℕ)) → ends_at_end state ≡ false
     → NextIs (next_record default_config state [] [] bytes) found fields after rest
     → (found ≡ true → (ends_at_end after ≡ false) × (rows_from state bytes ≡ fields ∷ rows_from after rest) × (0 < length fields))
@@ -152,7 +152,7 @@ shows state after bytes rest found fields h n =
     by None e t n = ((λ yes. cc (n, yes)), λ no. e)
     by (Some r) e t n = ((λ yes. rw (n.1, n.2, n.3) (t.0, e, t.1)), λ no. cc (n.0, no))
 
--- the same of a reader, by the bytes that the read left
+-- the same for a reader, by the bytes that the read did not take
 takes-by : {R : Type 0} (known : R → Option (List ℕ)) (old new : Reader R) (found : Bool) (fields : List (List ℕ)) (rest : Option (List ℕ))
     → (set : IsBetweenRecords known old) → source_of known new ≡ rest → reader_config new ≡ default_config → reader_trim new ≡ trim.None
     → is_flexible new ≡ true → took_first new ≡ true

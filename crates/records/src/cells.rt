@@ -7,7 +7,7 @@ ghost use Rattle.records.specs.RecordCells.{cells_of, cell_at};
 
 use csv::ByteRecord;
 
-/// Whether the byte is a space or a tab.
+/// Returns whether the byte is a space or a tab.
 #[inline(always)]
 pub fn is_blank(byte: u8) -> bool
     ensures { result ≡ is_blank byte }
@@ -15,7 +15,7 @@ pub fn is_blank(byte: u8) -> bool
     byte == b' ' || byte == b'\t'
 }
 
-/// The cell without the spaces and tabs at both ends.
+/// Returns the cell without the spaces and tabs at both ends.
 #[inline(always)]
 pub fn trimmed(cell: &[u8]) -> &[u8]
     ensures { result.now ≡ trimmed cell.now }
@@ -23,7 +23,7 @@ pub fn trimmed(cell: &[u8]) -> &[u8]
     without_trailing_blanks(without_leading_blanks(cell))
 }
 
-/// The cell without the spaces and tabs at its front.
+/// Returns the cell without the spaces and tabs at its start.
 #[inline(always)]
 pub fn without_leading_blanks(cell: &[u8]) -> &[u8]
     ensures { result.now ≡ without_leading_blanks cell.now }
@@ -44,16 +44,16 @@ fn without_trailing_blanks(cell: &[u8]) -> &[u8]
     ensures { result.now ≡ without_trailing_blanks cell.now }
 {
     let mut rest = cell;
-    while let [front @ .., last] = rest {
+    while let [prefix @ .., last] = rest {
         if !is_blank(*last) {
             break;
         }
-        rest = front;
+        rest = prefix;
     }
     rest
 }
 
-/// The number of cells of a record, without the empty and blank ones at its end.
+/// Returns the number of cells of a record, without the empty and blank ones at its end.
 pub fn cell_count(row: &ByteRecord) -> usize
     ensures { result ≡ length (cells_of (fields_of row.now)) }
 {
@@ -66,7 +66,7 @@ pub fn cell_count(row: &ByteRecord) -> usize
     count
 }
 
-/// The cell of a record at a place, trimmed; it is empty where the record has no such cell.
+/// Returns the trimmed cell of a record at a place. It is empty if the record has no such cell.
 #[inline(always)]
 #[tactic(auto, using(crate::proofs::CellFacts::at_cell))]
 pub fn cell_at(row: &ByteRecord, place: usize) -> &[u8]
@@ -85,7 +85,7 @@ pub fn field_at(row: &ByteRecord, place: usize) -> &[u8]
     row.get(place).unwrap_or(&[])
 }
 
-/// Whether the cell is the word. Its ASCII letters may be in upper or lower case.
+/// Returns whether the cell is the word, in upper or lower case of ASCII letters.
 pub fn is_word(cell: &[u8], word: &[u8]) -> bool
     ensures { result ≡ is_word cell.now word.now }
 {

@@ -1,11 +1,11 @@
-//! What holds of every reader of records, for whoever speaks of it in a contract. The call does nothing.
+//! A theorem about every reader of records. The function does nothing.
 
 ghost use Rattle.std.specs.Prelude.{◌≡◌, ℕ, Bool, false, List, Result, Ok, Err, IsErr};
 ghost use Rattle.std.specs.declared.alloc.AllocError.{AllocError};
 ghost use Rattle.records.specs.RecordReader.{RecordReaderView, TakesRow};
 
-/// A reader that told the end of its text, or want of memory, tells the same when it is asked again.
-#[tactic(auto, using(crate::proofs::ToldAgain::ended_again, crate::proofs::ToldAgain::refused_again))]
+/// A reader that returned the end of its text, or refused memory, returns the same at the next call.
+#[tactic(auto, using(crate::proofs::ReadAgain::ended_again, crate::proofs::ReadAgain::refused_again))]
 pub fn record_readers_answer_again()
     ensures ended { (old then after : RecordReaderView) (fields more : List (List ℕ))
         (again : Result Bool AllocError)

@@ -1,42 +1,41 @@
 //! The records of a text of comma-separated cells, one at a time.
 //!
-//! A record is what RFC 4180 says, as the crate `csv` states it: cells between commas, quoted cells between double quotes with a quote
-//! doubled inside, lines ended by LF, CR or both. Records may differ in length, no cell is trimmed, no record is a header, and blank lines
-//! are no records. One byte order mark at the front of the text is dropped.
+//! A record is as in RFC 4180, as the crate `csv` defines it: cells between commas, quoted cells between double quotes with inner
+//! quotes doubled, lines ended by LF, CR or both. Records may differ in length, no cell is trimmed, no record is a header, and a
+//! line without a byte is no record. One byte order mark at the start of the text is dropped.
 //!
-//! Where RFC 4180 is silent: a quote inside an unquoted cell stands for itself, bytes after a closing quote join its cell, and a quote that is
-//! not closed runs to the end of the text. A cell may hold any bytes.
+//! RFC 4180 does not define all texts. A quote inside an unquoted cell is a byte of the cell. Bytes after a closing quote are
+//! appended to the cell. A quote that is not closed extends to the end of the text. A cell may have any bytes.
 
 ghost use Rattle.std.specs.Prelude.{◌≡◌, ◌+◌, ◌<◌, ◌≤◌, true, IfOk, IfSome, OnOk, Ok, length};
 ghost use Rattle.std.specs.List.{All};
 ghost use Rattle.csv.specs.Records.{fields_of};
 ghost use Rattle.records.specs.RecordReader.{TakesRow, Rows, rows_ahead};
 ghost use Rattle.records.specs.Records.{records_of};
-ghost use Rattle.records.specs.inner.RecordsAhead.{IsBetweenRecords, IsUnread, TakesNext, rows_left};
+ghost use Rattle.records.specs.inner.RecordsAhead.{IsBetweenRecords, IsUnread, TakesNext, rows_remaining};
 
 use csv::{ByteRecord, Reader, ReaderBuilder};
 use std::alloc::{AllocError, Global};
 use std::io::{Cursor, Read};
 use std::marker::Model;
 
-// Whether the text has given all its records.
+// The progress of a reader.
 #[derive(Clone, Copy)]
 enum Progress {
-    // No record was asked for yet.
+    // No record was requested yet.
     Unread,
     // A record may follow.
     Reading,
     // The text has ended.
     Ended,
-    // Memory was refused, inside a record perhaps.
+    // Memory was refused, possibly inside a record.
     Refused,
 }
 
-/// A reader of the records of a text, which it owns or borrows: comma-separated values as RFC 4180 has them and the
-/// crate `csv` reads them. Its buffer and tables stand in the reader itself, some sixteen kilobytes; it takes memory
-/// only for the record that it reads into.
+/// A reader of the records of a text, which it owns or borrows: comma-separated values as in RFC 4180, read by the crate `csv`. Its
+/// buffer and tables are in the reader itself, about sixteen kilobytes; it allocates memory only for the record that it reads into.
 ///
-/// Contracts see the records that are left, or that their end was told, or that memory was refused.
+/// Contracts see the remaining records, or that their end was returned, or that memory was refused.
 #[derive(Drop)]
 pub struct RecordReader<R: Read> {
     alloc: Global,
@@ -56,7 +55,7 @@ impl<R: Read> Model for RecordReader<R> {
 }
 
 impl RecordReader<Cursor<Vec<u8>>> {
-    /// A reader of the records of `text`, which it keeps. It takes no memory and reads nothing yet.
+    /// Makes a reader of the records of `text`, which it owns. Allocates no memory and reads nothing yet.
     #[tactic(auto, using(crate::proofs::RecordSteps::few_records, crate::proofs::RecordSteps::records_have_cells))]
     pub fn new(alloc: Global, text: Vec<u8>) -> RecordReader<Cursor<Vec<u8>>>
         ensures records { result ≡ Rows (records_of text.items) }
@@ -72,7 +71,7 @@ impl RecordReader<Cursor<Vec<u8>>> {
 }
 
 impl<'a> RecordReader<&'a [u8]> {
-    /// A reader of the records of `text`, which it borrows. It takes no memory and reads nothing yet.
+    /// Makes a reader of the records of `text`, which it borrows. Allocates no memory and reads nothing yet.
     #[tactic(auto, using(crate::proofs::RecordSteps::few_records, crate::proofs::RecordSteps::records_have_cells))]
     pub fn from_slice(alloc: Global, text: &'a [u8]) -> RecordReader<&'a [u8]>
         ensures records { result ≡ Rows (records_of text.now) }
@@ -88,13 +87,13 @@ impl<'a> RecordReader<&'a [u8]> {
 }
 
 impl<R: Read> RecordReader<R> {
-    /// Reads the next record into `row`, in place of what `row` held. Returns `true` where there was one. `false` says
-    /// that the text has ended, then and ever after; what `row` then holds is left open.
+    /// Reads the next record into `row`, and replaces what `row` held. Returns whether there was a record. `false` means that the
+    /// text has ended, now and at every later call; then `row` is unspecified.
     ///
     /// # Errors
     ///
-    /// Memory was refused for `row`. The reader gives no further record, and returns this error ever after. Once it has
-    /// told the end of the text, it returns no error.
+    /// Memory was refused for `row`. The reader returns no further record, and every later call returns this error. After the end
+    /// of the text, no call returns an error.
     pub fn next(&mut self, row: &mut ByteRecord) -> Result<bool, AllocError>
         ensures takes { TakesRow self.old result (fields_of row.new) self.new }
         ensures fewer { result ≡ Ok true → rows_ahead self.new + 1 ≡ rows_ahead self.old }
@@ -137,11 +136,11 @@ fn take_first<R: Read>(
     take_record(reader, row)
 }
 
-// Gives the reader a header of no cells. Without one it would keep two copies of the first record, however long that is, as its own header.
+// Gives the reader a header without cells. Else it would store two copies of the first record, of any length, as its own header.
 fn name_no_columns<R: Read>(alloc: Global, reader: &mut Reader<R>) -> Result<(), AllocError>
     ensures { IsUnread R.remaining reader.old
         → OnOk result (IsBetweenRecords R.remaining reader.new
-        × (rows_left R.remaining reader.new ≡ rows_left R.remaining reader.old)) }
+        × (rows_remaining R.remaining reader.new ≡ rows_remaining R.remaining reader.old)) }
 {
     match reader.set_byte_headers(ByteRecord::new(alloc)) {
         Ok(()) => Ok(()),
@@ -149,8 +148,8 @@ fn name_no_columns<R: Read>(alloc: Global, reader: &mut Reader<R>) -> Result<(),
     }
 }
 
-// Takes the next record. The crate's contract leaves open whether an error is one of memory or of the reader underneath, which here is
-// bytes in memory and has none: so each is one of memory.
+// Takes the next record. The crate's contract does not exclude an error of the reader underneath. Here that reader has bytes in
+// memory and no errors, so every error is one of memory.
 fn take_record<R: Read>(reader: &mut Reader<R>, row: &mut ByteRecord) -> Result<bool, AllocError>
     ensures { IsBetweenRecords R.remaining reader.old
         → IfOk result (λ found. TakesNext R.remaining reader.old reader.new found
@@ -162,10 +161,11 @@ fn take_record<R: Read>(reader: &mut Reader<R>, row: &mut ByteRecord) -> Result<
     }
 }
 
-// A reader with the crate's defaults, but with records of any length. It is still to be given a header, so that the first record is none.
+// Makes a reader with the crate's defaults, but with records of any length. It has yet to get a header, so that the first record is
+// not used as one.
 fn reader_of<R: Read>(alloc: Global, source: R) -> Reader<R>
     ensures { IfSome (R.remaining source)
-        (λ text. IsUnread R.remaining result × (rows_left R.remaining result ≡ records_of text)) }
+        (λ text. IsUnread R.remaining result × (rows_remaining R.remaining result ≡ records_of text)) }
 {
     ReaderBuilder::new()
         .flexible(true)

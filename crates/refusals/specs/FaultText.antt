@@ -18,8 +18,8 @@ settings_name settings.Destinations = codes "Destinations"
 abbrev pub row_text : RowAt → List ℕ
 row_text at = codes "file " ++ (decimal at.file ++ (codes " row " ++ decimal at.row))
 
--- the text of an error: for a faulty row its file and the text of its fault; for a repeated cell the later row and then the earlier one; for a
--- sink the extension of its file
+-- the text of an error. An invalid row has its file and the text of its fault; a repeated cell has the later row and then the
+-- earlier one; a sink has the extension of its file
 abbrev pub refusal_text : Refusal → List ℕ
 refusal_text (refusal.Settings kind) = codes "settings: " ++ settings_name kind
 refusal_text refusal.NoThread = codes "NoThread"

@@ -42,7 +42,7 @@ pub enum Refusal {
     FeedFailed { file: u8 },
     /// A zone file has more than `MAX_FILE_BYTES` bytes.
     TooLong { file: u8 },
-    /// A zone file has a faulty row.
+    /// A zone file has an invalid row.
     Row { file: u8, fault: RowFault },
     /// Two blocks are in the same cell: `again` is the first row in the cell of an earlier row, and `first` is that row.
     Same { first: RowAt, again: RowAt },

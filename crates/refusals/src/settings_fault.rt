@@ -1,4 +1,4 @@
-//! What is wrong with the settings of a run.
+//! Faults of the settings of a run.
 
 use std::fmt;
 use thiserror::Error;

@@ -12,7 +12,7 @@ use Rattle.rows.specs.Packed.{row_in, row_of, row_on, HasRow}
 use Rattle.rows.specs.declared.item.Item.{Item}
 use Rattle.rows.specs.declared.item.Valued.{Valued}
 use Rattle.rows.specs.declared.packed.worths.PackedWorths.{PackedWorths}
-use Rattle.rows.specs.SpotView.{SpotView}
+use Rattle.rows.specs.ItemRefView.{ItemRefView}
 use Rattle.rows.specs.inner.EntryView.{EntryView}
 use Rattle.rows.specs.inner.Entries.{item_of, item_with, items_of}
 use Rattle.rows.specs.inner.Own.{own_at, own_on, HasOwn, HasWorths}
@@ -52,19 +52,19 @@ zip-at (x ∷ lists) (w ∷ worths) zip zero items at =
 zip-at (x ∷ lists) (w ∷ worths) zip (suc i) items at = zip-at lists worths zip.1 i items at
 
 -- the list and the row of a spot
-spot-row : (lists : List (List Item)) (o : Option (List Item)) (p : ℕ) → is_some (option_and_then (λ items. row_of items p) o) ≡ true
+item_ref-row : (lists : List (List Item)) (o : Option (List Item)) (p : ℕ) → is_some (option_and_then (λ items. row_of items p) o) ≡ true
     → (items : List Item) × (row : Valued) × (o ≡ Some items) × (row_of items p ≡ Some row)
-spot-row lists None p is = absurd (false≢true is)
-spot-row lists (Some items) p is = let row = some-row (row_of items p) is in (items, row.0, refl, row.1)
+item_ref-row lists None p is = absurd (false≢true is)
+item_ref-row lists (Some items) p is = let row = some-row (row_of items p) is in (items, row.0, refl, row.1)
   where
     some-row : (r : Option Valued) → is_some r ≡ true → (row : Valued) × (r ≡ Some row)
     some-row None e = absurd (false≢true e)
     some-row (Some row) e = (row, refl)
 
 module _ (lists : List (List Item)) (worths : List PackedWorths) (zip : AllZip HasWorths lists worths) where
-  at-spot : (s : SpotView) → HasRow lists s → (row : Valued) × (row_on lists s ≡ Some row) × (own_on worths s ≡ row.worths) × HasOwn worths s
-  at-spot s has =
-      let found = spot-row lists (slice_get lists s.list) s.position has in
+  at-item_ref : (s : ItemRefView) → HasRow lists s → (row : Valued) × (row_on lists s ≡ Some row) × (own_on worths s ≡ row.worths) × HasOwn worths s
+  at-item_ref s has =
+      let found = item_ref-row lists (slice_get lists s.list) s.position has in
       let list = zip-at lists worths zip s.list found.0 found.2 in
       let own = list.2 s.position found.1 found.3 in (
         found.1,
@@ -73,16 +73,16 @@ module _ (lists : List (List Item)) (worths : List PackedWorths) (zip : AllZip H
         (list.0, list.1, own.1),
       )
 
-  pub own-all : (spots : List SpotView) → All (HasRow lists) spots → All (HasOwn worths) spots
+  pub own-all : (item_refs : List ItemRefView) → All (HasRow lists) item_refs → All (HasOwn worths) item_refs
   own-all [] all = All-nil (HasOwn worths)
-  own-all (s ∷ spots) all =
-      All-cons (HasOwn worths) s spots (at-spot s (all 0 s (omega arith))).3 (own-all spots (All-tail (HasRow lists) s spots all))
+  own-all (s ∷ item_refs) all =
+      All-cons (HasOwn worths) s item_refs (at-item_ref s (all 0 s (omega arith))).3 (own-all item_refs (All-tail (HasRow lists) s item_refs all))
 
-  pub same-worths : (spots : List SpotView) → All (HasRow lists) spots
-      → map (own_on worths) spots ≡ map (λ (row : Valued). row.worths) (filter_map (row_on lists) spots)
+  pub same-worths : (item_refs : List ItemRefView) → All (HasRow lists) item_refs
+      → map (own_on worths) item_refs ≡ map (λ (row : Valued). row.worths) (filter_map (row_on lists) item_refs)
   same-worths [] all = refl
-  same-worths (s ∷ spots) all =
-      let here = at-spot s (all 0 s (omega arith)) in
-      ap (λ own. own ∷ map (own_on worths) spots) here.2
-      ∙ ap (λ rest. here.0.worths ∷ rest) (same-worths spots (All-tail (HasRow lists) s spots all))
-      ∙ sym (ap (λ o. map (λ (row : Valued). row.worths) (cons_option o (filter_map (row_on lists) spots))) here.1)
+  same-worths (s ∷ item_refs) all =
+      let here = at-item_ref s (all 0 s (omega arith)) in
+      ap (λ own. own ∷ map (own_on worths) item_refs) here.2
+      ∙ ap (λ rest. here.0.worths ∷ rest) (same-worths item_refs (All-tail (HasRow lists) s item_refs all))
+      ∙ sym (ap (λ o. map (λ (row : Valued). row.worths) (cons_option o (filter_map (row_on lists) item_refs))) here.1)

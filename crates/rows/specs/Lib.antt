@@ -1,5 +1,5 @@
+pub mod ItemRefView
 pub mod ItemsView
 pub mod Packed
-pub mod SpotView
 pub mod Valued
 pub mod inner

@@ -5,18 +5,18 @@ use Rattle.plan_parts.specs.formulas.WorthRange.{IsWorth}
 use Rattle.rows.specs.declared.item.Item.{Item}
 use Rattle.rows.specs.declared.item.Item.TheVariants.{Row, End}
 use Rattle.rows.specs.declared.item.Valued.{Valued}
-use Rattle.rows.specs.declared.mark.Mark.{Mark}
-use Rattle.rows.specs.declared.mark.Mark.TheVariants as mark
-use Rattle.rows.specs.SpotView.{SpotView}
+use Rattle.rows.specs.declared.item_key.ItemKey.{ItemKey}
+use Rattle.rows.specs.declared.item_key.ItemKey.TheVariants as item_key
+use Rattle.rows.specs.ItemRefView.{ItemRefView}
 
 -- this number of worths, each in the range of a formula's worths
 abbrev pub AreWorths : ℕ → List ℤ → Type 0
 AreWorths width worths = (length worths ≡ width) × All IsWorth worths
 
 -- the item without a row's block and worths
-abbrev pub mark_of : Item → Mark
-mark_of (Row v) = mark.Row v.file v.place
-mark_of (End file rows) = mark.End file rows
+abbrev pub key_of : Item → ItemKey
+key_of (Row v) = item_key.Row v.file v.place
+key_of (End file rows) = item_key.End file rows
 
 -- the row, if the item is one
 abbrev pub row_in : Item → Option Valued
@@ -28,9 +28,9 @@ abbrev pub row_of : List Item → ℕ → Option Valued
 row_of items position = option_and_then row_in (slice_get items position)
 
 -- the row at a position of these lists, if the item there is a row
-abbrev pub row_on : List (List Item) → SpotView → Option Valued
-row_on lists spot = option_and_then (λ items. row_of items spot.position) (slice_get lists spot.list)
+abbrev pub row_on : List (List Item) → ItemRefView → Option Valued
+row_on lists item_ref = option_and_then (λ items. row_of items item_ref.position) (slice_get lists item_ref.list)
 
 -- the item there is a row
-abbrev pub HasRow : List (List Item) → SpotView → Type 0
-HasRow lists spot = is_some (row_on lists spot) ≡ true
+abbrev pub HasRow : List (List Item) → ItemRefView → Type 0
+HasRow lists item_ref = is_some (row_on lists item_ref) ≡ true

@@ -1,6 +1,6 @@
 pub mod Entries
 pub mod EntryFields
 pub mod EntryView
+pub mod ItemRefFields
 pub mod Own
-pub mod SpotFields
 pub mod WorthsFields

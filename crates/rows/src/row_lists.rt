@@ -8,10 +8,10 @@ ghost use Rattle.rows.specs.Packed.{row_on, HasRow};
 ghost use Rattle.rows.specs.inner.Own.{HasWorths};
 
 use crate::item::{Item, Valued};
+use crate::item_ref::ItemRef;
 use crate::packed::items::PackedItems;
 use crate::packed::worths::PackedWorths;
 use crate::row_worths::RowWorths;
-use crate::spot::Spot;
 use plan_parts::block::Block;
 use std::alloc::{AllocError, Global};
 use std::marker::Model;
@@ -21,7 +21,7 @@ use std::marker::Model;
 #[derive(Debug, Drop)]
 pub struct RowLists {
     lists: Vec<PackedItems>,
-    spots: Vec<Spot>,
+    item_refs: Vec<ItemRef>,
 }
 
 impl Model for RowLists {
@@ -32,18 +32,18 @@ impl Model for RowLists {
 
     ghost Value = { List Valued };
 
-    ghost view = { λ r. filter_map (row_on (items_in r.lists.items)) r.spots.items };
+    ghost view = { λ r. filter_map (row_on (items_in r.lists.items)) r.item_refs.items };
 
-    ghost invariant = { λ r. All (HasRow (items_in r.lists.items)) r.spots.items };
+    ghost invariant = { λ r. All (HasRow (items_in r.lists.items)) r.item_refs.items };
 }
 
 impl RowLists {
     /// Makes a list of the rows at these positions of the lists, without copying them.
-    pub fn new(lists: Vec<PackedItems>, spots: Vec<Spot>) -> RowLists
-        requires { All (HasRow (items_in lists.items)) spots.items }
-        ensures { result ≡ filter_map (row_on (items_in lists.items)) spots.items }
+    pub fn new(lists: Vec<PackedItems>, item_refs: Vec<ItemRef>) -> RowLists
+        requires { All (HasRow (items_in lists.items)) item_refs.items }
+        ensures { result ≡ filter_map (row_on (items_in lists.items)) item_refs.items }
     {
-        RowLists { lists, spots }
+        RowLists { lists, item_refs }
     }
 
     /// Returns the number of rows.
@@ -51,7 +51,7 @@ impl RowLists {
     pub fn len(&self) -> usize
         ensures { result ≡ length self.now }
     {
-        self.spots.len()
+        self.item_refs.len()
     }
 
     /// Returns the row at a position, from 0.
@@ -60,8 +60,8 @@ impl RowLists {
         requires { position < length self.now }
         ensures { slice_get self.now position ≡ Some result }
     {
-        let spot = self.spots[position];
-        row_on(&self.lists, spot)
+        let item_ref = self.item_refs[position];
+        row_on(&self.lists, item_ref)
     }
 
     /// Returns the block of the row at a position, from 0.
@@ -70,8 +70,8 @@ impl RowLists {
         requires { position < length self.now }
         ensures { Some result ≡ option_map (λ row. row.block) (slice_get self.now position) }
     {
-        let spot = self.spots[position];
-        block_on(&self.lists, spot)
+        let item_ref = self.item_refs[position];
+        block_on(&self.lists, item_ref)
     }
 
     /// Returns the worths of the rows without moving them, and drops everything else. Fails only if memory for one entry for each list is
@@ -79,25 +79,27 @@ impl RowLists {
     pub fn into_worths(self, alloc: Global) -> Result<RowWorths, AllocError>
         ensures { IfOk result (λ worths. worths ≡ map (λ row. row.worths) self) }
     {
-        Ok(RowWorths::new(worths_of(alloc, self.lists)?, self.spots))
+        Ok(RowWorths::new(worths_of(alloc, self.lists)?, self.item_refs))
     }
 }
 
-fn row_on(lists: &[PackedItems], spot: Spot) -> Valued
-    requires { HasRow (items_in lists.now) spot }
-    ensures { Some result ≡ row_on (items_in lists.now) spot }
+fn row_on(lists: &[PackedItems], item_ref: ItemRef) -> Valued
+    requires { HasRow (items_in lists.now) item_ref }
+    ensures { Some result ≡ row_on (items_in lists.now) item_ref }
 {
-    match lists[spot.list()].at(spot.position()) {
+    match lists[item_ref.list()].at(item_ref.position()) {
         Item::Row(row) => row,
         Item::End { .. } => unreachable!(),
     }
 }
 
-fn block_on(lists: &[PackedItems], spot: Spot) -> Block
-    requires { HasRow (items_in lists.now) spot }
-    ensures { Some result ≡ option_map (λ row. row.block) (row_on (items_in lists.now) spot) }
+fn block_on(lists: &[PackedItems], item_ref: ItemRef) -> Block
+    requires { HasRow (items_in lists.now) item_ref }
+    ensures { Some result ≡ option_map (λ row. row.block) (row_on (items_in lists.now) item_ref) }
 {
-    lists[spot.list()].block_at(spot.position()).unwrap()
+    lists[item_ref.list()]
+        .block_at(item_ref.position())
+        .unwrap()
 }
 
 // Returns the worths of each of these lists of items, and drops the remainder.

@@ -3,8 +3,8 @@
 ghost use Rattle.std.specs.Prelude.{◌≡◌, ◌<◌, All, length, map, slice_index_or, []};
 ghost use Rattle.rows.specs.inner.Own.{own_on, HasOwn};
 
+use crate::item_ref::ItemRef;
 use crate::packed::worths::PackedWorths;
-use crate::spot::Spot;
 use std::marker::Model;
 
 /// The worths of the rows of several files, stored in the lists of the valuers, and the order of the rows. In memory a row takes 4 bytes, and 8
@@ -12,7 +12,7 @@ use std::marker::Model;
 #[derive(Debug, Drop)]
 pub struct RowWorths {
     lists: Vec<PackedWorths>,
-    spots: Vec<Spot>,
+    item_refs: Vec<ItemRef>,
 }
 
 impl Model for RowWorths {
@@ -21,25 +21,25 @@ impl Model for RowWorths {
 
     ghost Value = { List (List ℤ) };
 
-    ghost view = { λ r. map (own_on r.lists.items) r.spots.items };
+    ghost view = { λ r. map (own_on r.lists.items) r.item_refs.items };
 
-    ghost invariant = { λ r. All (HasOwn r.lists.items) r.spots.items };
+    ghost invariant = { λ r. All (HasOwn r.lists.items) r.item_refs.items };
 }
 
 impl RowWorths {
     // Makes a list of the worths at these positions of the lists.
-    pub(crate) fn new(lists: Vec<PackedWorths>, spots: Vec<Spot>) -> RowWorths
-        requires { All (HasOwn lists.items) spots.items }
-        ensures { result ≡ map (own_on lists.items) spots.items }
+    pub(crate) fn new(lists: Vec<PackedWorths>, item_refs: Vec<ItemRef>) -> RowWorths
+        requires { All (HasOwn lists.items) item_refs.items }
+        ensures { result ≡ map (own_on lists.items) item_refs.items }
     {
-        RowWorths { lists, spots }
+        RowWorths { lists, item_refs }
     }
 
     /// Returns the number of rows.
     pub fn len(&self) -> usize
         ensures { result ≡ length self.now }
     {
-        self.spots.len()
+        self.item_refs.len()
     }
 
     /// Returns the worths of the row at a position, from 0.
@@ -47,15 +47,15 @@ impl RowWorths {
         requires { position < length self.now }
         ensures { result.now ≡ slice_index_or self.now position [] }
     {
-        let spot = self.spots[position];
-        own_on(&self.lists, spot)
+        let item_ref = self.item_refs[position];
+        own_on(&self.lists, item_ref)
     }
 }
 
 // Returns the worths at a position of these lists.
-fn own_on(lists: &[PackedWorths], spot: Spot) -> &[i64]
-    requires { HasOwn lists.now spot }
-    ensures { result.now ≡ own_on lists.now spot }
+fn own_on(lists: &[PackedWorths], item_ref: ItemRef) -> &[i64]
+    requires { HasOwn lists.now item_ref }
+    ensures { result.now ≡ own_on lists.now item_ref }
 {
-    lists[spot.list()].at(spot.position())
+    lists[item_ref.list()].at(item_ref.position())
 }

@@ -1,4 +1,4 @@
--- One feed that tells its bytes gives one text.
+-- A feed that reports its bytes gives one text.
 use Rattle.std.specs.Prelude.{◌≡◌, ℕ, List, [], ◌∷◌, Option, Some}
 use Rattle.std.proofs.Common.{ap, subst}
 use Rattle.pit_compile.specs.ZoneFiles.{AreGiven}
@@ -9,6 +9,6 @@ one_given zone [] given = absurd given
 one_given zone (text ∷ []) given = ap (λ t. t ∷ []) given.0
 one_given zone (text ∷ other ∷ more) given = absurd given.1
 
-pub one_text : (zone : List ℕ) {lefts : List (Option (List ℕ))} (texts : List (List ℕ))
-    → AreGiven lefts texts → lefts ≡ Some zone ∷ [] → texts ≡ zone ∷ []
-one_text zone texts given told = one_given zone texts (subst (λ lefts. AreGiven lefts texts) told given)
+pub one_text : (zone : List ℕ) {remainders : List (Option (List ℕ))} (texts : List (List ℕ))
+    → AreGiven remainders texts → remainders ≡ Some zone ∷ [] → texts ≡ zone ∷ []
+one_text zone texts given reported = one_given zone texts (subst (λ remainders. AreGiven remainders texts) reported given)

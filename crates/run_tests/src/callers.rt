@@ -29,11 +29,12 @@ use std::test::Fail;
 use std::thread::Threads;
 use valuers::OpenGate;
 
-/// The number of arcs of the instance that three texts denote: pairs of a block and one that it has to wait for.
+/// Returns the number of arcs of the instance that three texts denote: pairs of a block and one of its predecessors.
 ///
 /// # Errors
 ///
-/// The first faulty line of the texts, or that memory was refused.
+/// - `Fault`: the first invalid line of the texts.
+/// - `OutOfMemory`: memory was refused.
 pub fn count_arcs(
     alloc: Global,
     blocks: &[u8],
@@ -49,11 +50,11 @@ pub fn count_arcs(
     Ok(instance.arcs())
 }
 
-/// The block file of the instance of a plan with one zone, whose rows two threads value.
+/// Returns the block file of the instance of a plan with one zone, whose rows two threads value.
 ///
 /// # Errors
 ///
-/// Those of `run`.
+/// Fails like `run`, or with `OutOfMemory`.
 pub fn block_file<R: Threads + Wait + Sync>(
     rt: &R,
     alloc: Global,
@@ -101,7 +102,7 @@ const TWO_PCPSP: &str = pcpsp! {
     limits: [],
 };
 
-// The number of arcs, or `None` where the texts are refused.
+// Returns the number of arcs, or `None` if the texts are rejected.
 fn arcs_of(alloc: Global, blocks: &[u8], prec: &[u8], pcpsp: &[u8]) -> Option<usize> {
     match count_arcs(alloc, blocks, prec, pcpsp) {
         Ok(arcs) => Some(arcs),
@@ -127,7 +128,7 @@ const ONE_ZONE: &[u8] =
 
 const ORE: &[u8] = b"x,y,z,tonnes,grade\n0,0,0,1000,5000\n";
 
-// The block file of a zone, or `None` where the run is refused.
+// Returns the block file of a zone, or `None` if the run fails.
 fn blocks_of<R: Threads + Wait + Sync>(
     rt: &R,
     alloc: Global,

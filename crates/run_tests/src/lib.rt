@@ -1,5 +1,5 @@
-//! Worked examples on runs and commands, and what the program does not show of them and of words, inputs and outputs; and callers of the
-//! crates below. Nothing else stands here, so that no crate is proved once more for them.
+//! Worked examples for runs and commands, and properties of them, of arguments, of inputs and of outputs that the program does not
+//! show; and callers of the crates below. The crate has nothing else, so no other crate is proved again for it.
 #![tactic(auto)]
 
 #[cfg(test)]

@@ -1,4 +1,4 @@
-//! Runs and commands on worked examples; and inputs, outputs, feeds and sinks that fail, as those of the built program never do.
+//! Runs and commands on worked examples; and inputs, outputs, feeds and sinks that fail in ways that the built program's never do.
 
 mod ending;
 mod files;

@@ -1,9 +1,10 @@
 -- What joined threads gave back, by what they promised.
-use Rattle.std.proofs.Common.{◌≡◌, ℕ, zero, suc, ◌+◌, List, [], ◌∷◌, ◌++◌, Bool, true, false, Option, length, map, drop, get_or, refl, sym, ap, ◌∙◌, subst, arith, All, append_assoc, inl, inr, ⊎_elim, true≢false, ◌||◌}
+use Rattle.std.proofs.Common.{◌≡◌, ℕ, zero, suc, ◌+◌, List, [], ◌∷◌, ◌++◌, true, false, length, map, drop, get_or, refl, sym, ap, ◌∙◌, subst, arith, All, append_assoc, inl, inr, ⊎_elim, true≢false, ◌||◌}
 use Rattle.std.proofs.lemmas.List.{map-append, length-map}
 use Rattle.std.specs.List.{AllZip, list_any}
 use Rattle.std.proofs.lemmas.Bool.{cases_Bool, or_parts}
 use Rattle.std.proofs.lemmas.List.Elements.{All-nil, All-cons, All-head, All-rest, All-tail}
+use Rattle.devices.specs.feeds.FeedState.{FeedState}
 use Rattle.lane.specs.Ends.{Lane, PutEndView, TakeEndView, ArePutsFrom, AreTakesFrom, first_puts, first_takes}
 use Rattle.lane.specs.MessageKinds.{is_done}
 use Rattle.plan_parts.specs.PlanFormulas.{formulas_of_plan}
@@ -67,15 +68,15 @@ pub of_given : {H E : Type 0} (P : E → Type 0) (end : H → E) (hs : List H) (
     → All (λ h. P (end h)) hs
 of_given P end [] rest all is h = All-nil (λ h. P (end h))
 of_given P end (x ∷ xs) rest all is h =
-    let behind = map end xs ++ rest in
-    let whole : All P (end x ∷ behind) = subst (All P) (sym is) h in
-    All-cons (λ h. P (end h)) x xs (All-head P (end x) behind whole) (of_given P end xs rest behind refl (All-tail P (end x) behind whole))
+    let following = map end xs ++ rest in
+    let whole : All P (end x ∷ following) = subst (All P) (sym is) h in
+    All-cons (λ h. P (end h)) x xs (All-head P (end x) following whole) (of_given P end xs rest following refl (All-tail P (end x) following whole))
 
 -- the readers of one plan, whatever their handles are
-module _ {H F : Type 0} (left : F → Option (List ℕ)) (is_sure : F → Bool) (failures : F → ℕ) (feed : H → F) (plan : H → PlanParts)
-    (end : H → PutEndView) (p : PlanParts) (lane : Lane) (files : ℕ) where
+module _ {H F : Type 0} (state : F → FeedState) (feed : H → F) (plan : H → PlanParts) (end : H → PutEndView)
+    (p : PlanParts) (lane : Lane) (files : ℕ) where
   abbrev Kept : H → FileRead → Type 0
-  Kept h r = KeepsRead left is_sure failures (plan h).grid (feed h) (end h) r.ended r.answer
+  Kept h r = KeepsRead state (plan h).grid (feed h) (end h) r.ended r.answer
 
   pub puts_of : (k n : ℕ) → k + n ≡ files → (hs : List H) (rs : List FileRead) → AllZip Kept hs rs → map end hs ≡ first_puts lane k n
       → ArePutsFrom lane files k (map (λ r. r.ended) rs)
@@ -89,7 +90,7 @@ module _ {H F : Type 0} (left : F → Option (List ℕ)) (is_sure : F → Bool) 
 
   pub read_of : (k n : ℕ) (hs : List H) (rs : List FileRead) → AllZip Kept hs rs → All (λ h. plan h ≡ p) hs
       → map end hs ≡ first_puts lane k n
-      → AreRead left is_sure failures p.grid k (map feed hs) (map (λ r. r.answer) rs) (map (λ (e : PutEndView). e.sent) (map (λ r. r.ended) rs))
+      → AreRead state p.grid k (map feed hs) (map (λ r. r.answer) rs) (map (λ (e : PutEndView). e.sent) (map (λ r. r.ended) rs))
   read_of k n [] [] kept plans ends = tt
   read_of k zero (h ∷ hs) (r ∷ rs) kept plans ends = absurd (let l = ap length ends in let z : ⊥ = omega arith in z)
   read_of k (suc n) (h ∷ hs) (r ∷ rs) kept plans ends =

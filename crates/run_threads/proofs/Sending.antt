@@ -1,7 +1,8 @@
 -- How a reader goes through its zone file, block by block, and what it then did with the file.
-use Rattle.std.proofs.Common.{◌≡◌, ℕ, ◌+◌, ◌<◌, ◌≤◌, Bool, true, List, [], ◌∷◌, ◌++◌, length, Option, Some, None, Result, Ok, Err, ap, ◌∙◌, refl, subst, arith, append_assoc, length-append, ⊎_elim}
+use Rattle.std.proofs.Common.{◌≡◌, ℕ, ◌+◌, ◌<◌, ◌≤◌, true, List, [], ◌∷◌, ◌++◌, length, Option, Some, None, Result, Ok, Err, ap, ◌∙◌, refl, subst, arith, append_assoc, length-append, ⊎_elim}
 use Rattle.std.specs.Prelude.{IfSome}
 use Rattle.std.proofs.lemmas.Bool.{cases_Bool}
+use Rattle.devices.specs.feeds.FeedState.{FeedState}
 use Rattle.devices.specs.declared.feeds.slurp.SlurpFault.{SlurpFault}
 use Rattle.devices.specs.declared.feeds.slurp.SlurpFault.TheVariants.{FeedFailed, TooLong}
 use Rattle.devices.specs.declared.feeds.slurp.SlurpFault.TheVariants as slurp
@@ -78,13 +79,13 @@ module _ (file : ℕ) (whole : List Block) (fault : Option RowFault) where
       → Answers old (Err x) new → HasPut file whole fault (Err x) sent
   stops sent old new x s answers = stopped sent new x s.rest s.makes_up (subst (λ v. Answers v (Err x) new) s.says answers)
 
-module _ {F : Type 0} (left : F → Option (List ℕ)) (is_sure : F → Bool) (failures : F → ℕ) (grid : Grid) (file : ℕ) (feed : F) where
+module _ {F : Type 0} (state : F → FeedState) (grid : Grid) (file : ℕ) (feed : F) where
   -- why a feed gave no text
-  pub gives_none : (new : F) (fault : SlurpFault) (sent : List Taken) → (fault ≡ FeedFailed → failures new ≡ failures feed + 1)
-      → (is_sure feed ≡ true → fault ≡ FeedFailed → ⊥) → (fault ≡ TooLong → IfSome (left feed) (λ bytes. most_bytes < length bytes))
-      → IsRead left is_sure failures grid file feed (Err fault) sent
+  pub gives_none : (new : F) (fault : SlurpFault) (sent : List Taken) → (fault ≡ FeedFailed → (state new).failures ≡ (state feed).failures + 1)
+      → ((state feed).is_sure ≡ true → fault ≡ FeedFailed → ⊥) → (fault ≡ TooLong → IfSome (state feed).remaining (λ bytes. most_bytes < length bytes))
+      → IsRead state grid file feed (Err fault) sent
   gives_none new FeedFailed sent refused unsure long = record {
-    unsure = ⊎_elim (λ sure. absurd (unsure sure refl)) (λ other. other) (cases_Bool (is_sure feed));
+    unsure = ⊎_elim (λ sure. absurd (unsure sure refl)) (λ other. other) (cases_Bool (state feed).is_sure);
     now = new;
     refused = refused refl;
   }
@@ -93,9 +94,9 @@ module _ {F : Type 0} (left : F → Option (List ℕ)) (is_sure : F → Bool) (f
 
   -- of the text that a feed gave, what was put with the end mark behind it
   pub text_read : (text : List ℕ) (answer : Result (Unit {0}) (OrMemory RowFault)) (sent : List Taken)
-      → IfSome (left feed) (λ bytes. text ≡ bytes) → length text ≤ most_bytes
+      → IfSome (state feed).remaining (λ bytes. text ≡ bytes) → length text ≤ most_bytes
       → HasPut file (blocks_of grid file text) (fault_of grid file text) answer sent
-      → IsRead left is_sure failures grid file feed (Ok answer) (sent ++ message.End file (length sent) ∷ [])
+      → IsRead state grid file feed (Ok answer) (sent ++ message.End file (length sent) ∷ [])
   text_read text (Ok done) sent given short put =
       record { text = text; given = given; short = short; fault_is = put.0; sent_is = put.1 }
   text_read text (Err (Fault fault)) sent given short put =

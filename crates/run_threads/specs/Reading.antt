@@ -1,10 +1,11 @@
 -- What a reader did with its zone file: the messages that it sent into the lane, and its result.
-use Rattle.std.specs.Prelude.{◌≡◌, ℕ, ◌+◌, ◌<◌, ◌≤◌, Bool, List, [], ◌∷◌, length, Option, Some, None, IfSome, Result, Ok, Err}
+use Rattle.std.specs.Prelude.{◌≡◌, ℕ, ◌+◌, ◌<◌, ◌≤◌, List, [], ◌∷◌, length, Option, Some, None, IfSome, Result, Ok, Err}
 use Rattle.lane.specs.Message.{sent_from}
 use Rattle.lane.specs.declared.message.Taken.{Taken}
 use Rattle.plan_parts.specs.declared.grid.Grid.{Grid}
 use Rattle.zone_csv.specs.Zone.{blocks_of, fault_of}
 use Rattle.zone_csv.specs.declared.row_fault.RowFault.{RowFault}
+use Rattle.devices.specs.feeds.FeedState.{FeedState}
 use Rattle.devices.specs.declared.feeds.slurp.SlurpFault.{SlurpFault}
 use Rattle.devices.specs.declared.feeds.slurp.SlurpFault.TheVariants.{FeedFailed, TooLong, OutOfMemory}
 use Rattle.pit_units.specs.declared.or_memory.OrMemory.{OrMemory}
@@ -18,22 +19,22 @@ ReadAnswer = Result (Result (Unit {0}) (OrMemory RowFault)) SlurpFault
 
 -- the reader read a text up to its first fault `fault`, and sent the blocks before the fault. If the feed reports its bytes, the text is
 -- these bytes
-pub record IsReadTo (grid : Grid) (file : ℕ) (left : Option (List ℕ)) (fault : Option RowFault) (sent : List Taken) : Type 0 where
+pub record IsReadTo (grid : Grid) (file : ℕ) (remaining : Option (List ℕ)) (fault : Option RowFault) (sent : List Taken) : Type 0 where
   pub text : List ℕ
-  pub given : IfSome left (λ bytes. text ≡ bytes)
+  pub given : IfSome remaining (λ bytes. text ≡ bytes)
   pub short : length text ≤ most_bytes
   pub fault_is : fault_of grid file text ≡ fault
   pub sent_is : sent ≡ sent_from file 0 (blocks_of grid file text)
 
--- `left`, `is_sure` and `failures` are the ghost members of a feed
-module _ {F : Type 0} (left : F → Option (List ℕ)) (is_sure : F → Bool) (failures : F → ℕ) where
+-- `state` is the ghost member of a feed
+module _ {F : Type 0} (state : F → FeedState) where
   -- the result of the reader of a feed, and the messages that it sent
   abbrev pub IsRead : Grid → ℕ → F → ReadAnswer → List Taken → Type 0
-  IsRead grid file feed (Ok (Ok done)) sent = IsReadTo grid file (left feed) None sent
-  IsRead grid file feed (Ok (Err (row.Fault fault))) sent = IsReadTo grid file (left feed) (Some fault) sent
+  IsRead grid file feed (Ok (Ok done)) sent = IsReadTo grid file (state feed).remaining None sent
+  IsRead grid file feed (Ok (Err (row.Fault fault))) sent = IsReadTo grid file (state feed).remaining (Some fault) sent
   IsRead grid file feed (Ok (Err row.OutOfMemory)) sent = Unit {0}
-  IsRead grid file feed (Err TooLong) sent = IfSome (left feed) (λ bytes. most_bytes < length bytes)
-  IsRead grid file feed (Err FeedFailed) sent = HasRefused is_sure failures feed
+  IsRead grid file feed (Err TooLong) sent = IfSome (state feed).remaining (λ bytes. most_bytes < length bytes)
+  IsRead grid file feed (Err FeedFailed) sent = HasRefused state feed
   IsRead grid file feed (Err OutOfMemory) sent = Unit {0}
 
   -- the same for each of these feeds; the first belongs to file k

@@ -46,7 +46,7 @@ pub fn read_file<R: Wait, F: Feed + Drop, G: Gate>(
 ) -> FileRead
     requires { IsUnsent plan.now file put_end }
     ensures end { (result.ended.lane ≡ put_end.lane) × (result.ended.file ≡ file) }
-    ensures read { IsRead F.left F.is_sure F.failures plan.now.grid file feed
+    ensures read { IsRead F.state plan.now.grid file feed
         result.answer result.ended.sent }
     ensures passed { G.passed_reader gate.now file }
 {
@@ -69,7 +69,7 @@ fn put_file<R: Wait, F: Feed, G: Gate>(
 ) -> ReadResult
     requires { IsUnsent plan.now file put_end.old }
     ensures end { (put_end.new.lane ≡ put_end.old.lane) × (put_end.new.file ≡ file) }
-    ensures read { IsRead F.left F.is_sure F.failures plan.now.grid file feed.old result
+    ensures read { IsRead F.state plan.now.grid file feed.old result
         (put_end.new.sent ++ Taken.End file (length put_end.new.sent) ∷ []) }
     ensures passed { G.passed_reader gate.now file }
 {

@@ -87,7 +87,7 @@ pub fn hand_over<R: Threads + Wait + Sync, F: Feed + Send + Drop, G: Gate + Sync
     requires unspent { starts.old ≡ none_spent starts.old.allowed }
 
     // The files were read, their rows were valued, by this number of threads and through a lane of this capacity.
-    ensures handed { IfOk result (λ made. IsHandedOver F.left F.is_sure F.failures plan.now feeds.items
+    ensures handed { IfOk result (λ made. IsHandedOver F.state plan.now feeds.items
         allowance.valuers allowance.capacity made.0 made.1) }
 
     // A thread was started for each valuer and each file, or a start was refused, or none was tried. The valuers start first. Each thread
@@ -112,22 +112,22 @@ pub fn hand_over<R: Threads + Wait + Sync, F: Feed + Send + Drop, G: Gate + Sync
         feeds,
         lane,
     };
-    let lent = starts.lend();
+    let borrowed = starts.borrow_counts();
     let Settled {
         handed,
-        starts: left,
+        starts: remaining,
     } = thread::scope(
         thread::scope_env(),
         rt,
         move |scope| -> Settled<F>
-            requires unspent { lent ≡ none_spent lent.allowed }
-            ensures handed { IfOk result.handed (λ made. IsHandedOver F.left F.is_sure F.failures
+            requires unspent { borrowed ≡ none_spent borrowed.allowed }
+            ensures handed { IfOk result.handed (λ made. IsHandedOver F.state
                 ready.entry.shared.plan.now ready.entry.feeds.items ready.entry.lane.closer.takers
                 ready.entry.lane.closer.lane.2 made.0 made.1) }
             ensures spends { StartsInScope ready.entry.lane.closer.takers
-                (vec_len ready.entry.feeds) lent result.starts result.handed }
-        { hand_over_in(Starter::new(scope, rt, lent), ready) },
+                (vec_len ready.entry.feeds) borrowed result.starts result.handed }
+        { hand_over_in(Starter::new(scope, rt, borrowed), ready) },
     );
-    starts.give_back(left);
+    starts.give_back(remaining);
     Ok(handed?)
 }

@@ -38,7 +38,7 @@ pub fn hand_over_in<'s, E, T: Threads, R: Wait + Sync, F: Feed + Send + Drop + '
     ready: Ready<'s, R, F, G>,
 ) -> Settled<F>
     requires unspent { starter ≡ none_spent starter.allowed }
-    ensures handed { IfOk result.handed (λ made. IsHandedOver F.left F.is_sure F.failures
+    ensures handed { IfOk result.handed (λ made. IsHandedOver F.state
         ready.entry.shared.plan.now ready.entry.feeds.items ready.entry.lane.closer.takers
         ready.entry.lane.closer.lane.2 made.0 made.1) }
 

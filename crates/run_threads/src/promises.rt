@@ -19,7 +19,7 @@ pub struct ReadBy<F> {
 impl<F: Feed> Promise<FileRead> for ReadBy<F> {
     ghost use Rattle.run_threads.specs.inner.Promises.{KeepsRead};
 
-    ghost kept_by = { λ p r. KeepsRead F.left F.is_sure F.failures p.plan.value.grid p.feed.value
+    ghost kept_by = { λ p r. KeepsRead F.state p.plan.value.grid p.feed.value
         p.end.value r.ended r.answer };
 }
 

@@ -70,13 +70,13 @@ impl<'a, R, G> Starts<'a, R, G> {
     }
 
     /// Takes out the counts, and leaves no start here until `give_back` is called.
-    pub(crate) fn lend(&mut self) -> Counted
+    pub(crate) fn borrow_counts(&mut self) -> Counted
         ensures { result ≡ self.old }
     {
         mem::replace(&mut self.counted, Counted::new(0))
     }
 
-    /// Puts the counts back that `lend` took out.
+    /// Puts the counts back that `borrow_counts` took out.
     pub(crate) fn give_back(&mut self, counted: Counted)
         ensures { self.new ≡ counted }
     {
@@ -159,7 +159,7 @@ impl OfLane for LaneEnded {
 /// What a thread of a run promises.
 pub trait RunPromise {
     /// The part of the lane that must exist before the thread may be joined.
-    type Behind: OfLane;
+    type After: OfLane;
 
     /// The lane that the thread puts into, or takes from.
     ghost lane: { Self → Lane };
@@ -167,14 +167,14 @@ pub trait RunPromise {
 
 // A reader ends by itself while valuers take, so it is joined before the lane is closed.
 impl<F> RunPromise for ReadBy<F> {
-    type Behind = Closer;
+    type After = Closer;
 
     ghost lane = { λ promise. promise.end.value.lane };
 }
 
 // A valuer ends when it takes the mark sent to it.
 impl RunPromise for ValuedBy {
-    type Behind = LaneEnded;
+    type After = LaneEnded;
 
     ghost lane = { λ promise. promise.end.value.lane };
 }
@@ -270,7 +270,7 @@ impl<'s, E, T> Starter<'s, E, T> {
         requires none_refused { self.old.refused ≡ false }
         requires runs { W.IsAlwaysCallable work }
         requires keeps { (thread : AThread) (r : _) → W.post work thread feed r
-            → KeepsRead F.left F.is_sure F.failures plan.value.grid feed end.value r.ended r.answer }
+            → KeepsRead F.state plan.value.grid feed end.value r.ended r.answer }
         ensures promise { IfSome result (λ handle. (handle.promise.feed.value ≡ feed)
             × (handle.promise.plan.value ≡ plan.value) × (handle.promise.end.value ≡ end.value)) }
         ensures counted { self.new ≡ after_reader (is_some result) self.old }
@@ -329,14 +329,14 @@ impl<'s, E, T> Starter<'s, E, T> {
 }
 
 impl<'s, E, T: Threads> Starter<'s, E, T> {
-    /// Joins a thread. `_behind` is the part of the lane that must exist before.
+    /// Joins a thread. `_after` is the part of the lane that must exist before.
     pub fn join<A, P: Promise<A> + RunPromise>(
         &mut self,
         handle: PromisedHandle<A, P>,
-        _behind: &P::Behind,
+        _after: &P::After,
     ) -> A
         requires running { self.old.joined < self.old.spent }
-        requires lane { P.lane handle.promise ≡ P.Behind.lane_of _behind.now }
+        requires lane { P.lane handle.promise ≡ P.After.lane_of _after.now }
         ensures kept { P.kept_by handle.promise result }
         ensures counted { self.new ≡ after_join self.old }
     {

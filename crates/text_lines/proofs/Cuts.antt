@@ -1,4 +1,4 @@
--- Where the first line of a text ends, and the first field of a line.
+-- The end of a text's first line, and of a line's first field.
 use Rattle.std.proofs.Common.{◌≡◌, ℕ, suc, ◌+◌, ◌<◌, ◌≤◌, ◌==◌, Bool, true, false, List, [], ◌∷◌, length, get_or, take, drop, refl, sym, ap, ◌∙◌, arith, position, nat_lt, Option, None, Some}
 use Rattle.std.specs.Prelude.{unwrap_or}
 use Rattle.std.specs.List.{onto_first, position_or_len}
@@ -25,7 +25,7 @@ place_or_length p xs = found (nat_lt (position_or_len p xs) (length xs)) refl wh
 abbrev pub is_feed : ℕ → Bool
 is_feed b = b == 10
 
--- what a search for the first of some byte finds, or the length
+-- the position that a search for a byte finds, or the length
 pub byte_found : (c : ℕ) (text : List ℕ) (r : Option ℕ) → IsFirstByte (is_byte c) text r
     → unwrap_or r (length text) ≡ position_or_len (λ b. b == c) text
 byte_found c text None h =
@@ -35,7 +35,7 @@ byte_found c text (Some k) h =
     sym (position_or_len_is (λ b. b == c) text k 0 (omega (arith, h.0.high))
     (λ i before. ne_eqb (get_or text i 0) c (λ e. h.0.before i (omega arith) before (eq-eqb _ _ e))) (λ _. h.1))
 
--- what a search for the first of some byte finds
+-- the position that a search for a byte finds
 pub byte_placed : (c : ℕ) (text : List ℕ) (r : Option ℕ) → IsFirstByte (is_byte c) text r → position (λ b. b == c) text ≡ r
 byte_placed c text None h =
     let past : nat_lt (position_or_len (λ b. b == c) text) (length text) ≡ false = le-ltb _ _ (omega (arith, byte_found c text None h)) in
@@ -45,7 +45,7 @@ byte_placed c text (Some k) h =
     let within : nat_lt (position_or_len (λ b. b == c) text) (length text) ≡ true = lt-ltb _ _ (omega (arith, found, h.0.high)) in
     rw (within, sym found) refl
 
--- the first n bytes of a text are its first line, and the next line begins behind its LF
+-- the first n bytes of a text are its first line, and the next line begins after its LF
 abbrev pub BeginsWithLine : List ℕ → ℕ → Type 0
 BeginsWithLine text n = lines_of text ≡ take n text ∷ lines_of (drop (suc n) text)
 
@@ -93,21 +93,21 @@ field_of_some b (c ∷ cs) e = before (is_blank c) (field_of_some c cs) refl whe
       let next : position_or_len is_blank (b ∷ c ∷ cs) ≡ suc n = rw e (omega arith) in
       rw next (fields_join b c cs e at ∙ ap (onto_first b) (field at))
 
--- what stands behind the blanks begins with a field, if it holds anything
+-- the text after the blanks begins with a field, if it has any bytes
 abbrev pub StartsWithField : List ℕ → Type 0
 StartsWithField text = 0 < length text → BeginsWithField text (position_or_len is_blank text) × (0 < position_or_len is_blank text)
 
 -- blanks before a line's first field do not count
-pub record IsBehindBlanks (line text : List ℕ) : Type 0 where
+pub record IsAfterBlanks (line text : List ℕ) : Type 0 where
   pub same : fields_of text ≡ fields_of line
   pub starts : StartsWithField text
   pub short : length text ≤ length line
 
-pub behind_blanks : (line : List ℕ) → IsBehindBlanks line (without_leading_blanks line)
-behind_blanks [] = record { same = refl; starts = λ some. absurd (omega (arith, some)); short = omega arith }
-behind_blanks (b ∷ bs) = past (is_blank b) (behind_blanks bs) refl where
-  past : (t : Bool) → IsBehindBlanks bs (without_leading_blanks bs) → is_blank b ≡ t
-      → IsBehindBlanks (b ∷ bs) (without_leading_blanks (b ∷ bs))
+pub after_blanks : (line : List ℕ) → IsAfterBlanks line (without_leading_blanks line)
+after_blanks [] = record { same = refl; starts = λ some. absurd (omega (arith, some)); short = omega arith }
+after_blanks (b ∷ bs) = past (is_blank b) (after_blanks bs) refl where
+  past : (t : Bool) → IsAfterBlanks bs (without_leading_blanks bs) → is_blank b ≡ t
+      → IsAfterBlanks (b ∷ bs) (without_leading_blanks (b ∷ bs))
   past true rest e =
       let same : fields_of (without_leading_blanks bs) ≡ fields_of (b ∷ bs) = rw e rest.same in
       rw e (record { same = same; starts = rest.starts; short = omega (arith, rest.short) })

@@ -1,4 +1,4 @@
--- A line whose fields are counted at the end states what one states whose fields are counted first.
+-- Counting a line's fields at the end gives the same values as counting them first.
 use Rattle.std.specs.Prelude.{◌≡◌, ℕ, suc, ◌==◌, not, Bool, true, false, List, [], ◌∷◌, ◌++◌, length, Result, Ok, Err, if◌then◌else◌}
 use Rattle.std.proofs.Common.{refl, sym, ◌∙◌, ap, arith, append-nil, append_assoc}
 use Rattle.std.proofs.lemmas.Bool.{eqb-true, eq-eqb, ne_eqb}
@@ -8,7 +8,7 @@ use Rattle.pit_units.specs.Steps.{◌>>=◌, each_of}
 use Rattle.text_lines.specs.declared.text_fault.TextKind.{TextKind}
 use Rattle.text_lines.specs.declared.text_fault.TextKind.TheVariants.{Fields}
 
--- so many fields that are taken one by one, up to the end: with as many, each is read at its place, and with others nothing is stated
+-- k fields read one by one: with exactly k fields, each is read at its index; with any other number, no value is returned
 pub record Later {B : Type 0} (k : ℕ) (fields : List (List ℕ)) (steps : Result B TextKind) (plain : (ℕ → List ℕ) → Result B TextKind) : Type 0 where
   pub same : length fields ≡ k → steps ≡ plain (field_at fields)
   pub other : (y : B) → steps ≡ Ok y → length fields ≡ k
@@ -16,8 +16,8 @@ pub record Later {B : Type 0} (k : ℕ) (fields : List (List ℕ)) (steps : Resu
 pub later : {A B : Type 0} {next : A → List (List ℕ) → Result B TextKind} {plain : A → (ℕ → List ℕ) → Result B TextKind} (k : ℕ)
     (rule : List ℕ → Result A TextKind) (fields : List (List ℕ)) → ((x : A) (rest : List (List ℕ)) → Later k rest (next x rest) (plain x))
     → Later (suc k) fields (first_by rule fields >>= λ p. next p.0 p.1) (λ at. rule (at 0) >>= λ x. plain x (λ place. at (suc place)))
-later k rule [] behind = record { same = λ count. absurd (omega (arith, count)); other = λ y e. absurd cc }
-later {A} {B} {next} {plain} k rule (field ∷ rest) behind =
+later k rule [] following = record { same = λ count. absurd (omega (arith, count)); other = λ y e. absurd cc }
+later {A} {B} {next} {plain} k rule (field ∷ rest) following =
     record { same = λ count. same (rule field) (omega (arith, count)); other = other (rule field) }
   where
     took : A → Result (A × List (List ℕ)) TextKind
@@ -25,11 +25,11 @@ later {A} {B} {next} {plain} k rule (field ∷ rest) behind =
 
     same : (r : Result A TextKind) → length rest ≡ k
         → ((r >>= took) >>= λ p. next p.0 p.1) ≡ (r >>= λ x. plain x (field_at rest))
-    same (Ok x) count = (behind x rest).same count
+    same (Ok x) count = (following x rest).same count
     same (Err kind) count = refl
 
     other : (r : Result A TextKind) (y : B) → ((r >>= took) >>= λ p. next p.0 p.1) ≡ Ok y → length (field ∷ rest) ≡ suc k
-    other (Ok x) y e = let count = (behind x rest).other y e in omega (arith, count)
+    other (Ok x) y e = let count = (following x rest).other y e in omega (arith, count)
     other (Err kind) y e = absurd cc
 
 pub at_end : {B : Type 0} (rest : List (List ℕ)) (r : Result B TextKind)
@@ -62,7 +62,7 @@ fault_later {B} k fields steps plain kind l e = by (length fields == k) (eqb-tru
     by true count = sym (l.same (count refl)) ∙ e
     by false count = refl
 
--- what all fields state, behind what was read before
+-- the values of all fields, after the values before them
 pub all_each : {A B : Type 0} (rule : List ℕ → Result A TextKind) (done : List A) (fields : List (List ℕ)) (next : List A → Result B TextKind)
     → (all_by rule done fields >>= next) ≡ (each_of rule fields >>= λ xs. next (done ++ xs))
 all_each rule done [] next = ap next (sym (append-nil done))

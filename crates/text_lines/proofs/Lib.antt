@@ -1,11 +1,11 @@
+pub mod ChunkFacts
 pub mod Cuts
 pub mod FedSteps
 pub mod FieldFacts
-pub mod FrontFields
 pub mod GivenFacts
 pub mod LaterFields
+pub mod LeadingFields
 pub mod LineEnds
 pub mod LinesRead
-pub mod PieceFacts
 pub mod PlainText
 pub mod ReadSteps

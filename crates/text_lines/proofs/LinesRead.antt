@@ -1,4 +1,4 @@
--- Lines that are read one behind the other, and the first that is faulty.
+-- Lines that are read one after the other, and the first invalid one.
 use Rattle.std.specs.Prelude.{◌≡◌, ℕ, List, [], ◌∷◌, ◌++◌, Result, Ok, Err}
 use Rattle.std.proofs.Common.{refl, sym, ◌∙◌, ap}
 use Rattle.pit_units.proofs.Exactly.{Exactly, same}
@@ -8,21 +8,21 @@ use Rattle.text_lines.specs.TextLines.{Line}
 use Rattle.text_lines.specs.declared.text_fault.LineFault.{LineFault}
 use Rattle.text_lines.specs.declared.text_fault.TextKind.{TextKind}
 
--- a line, wherever it stands
+-- a line, whatever its number
 pub at : {S : Type 0} {r : Result S TextKind} {P : S → Type 0} (number : ℕ) → Exactly r P → Exactly (at_line number r) P
-at {S} {r} {P} number all = record { told = λ y e. all.told y (told r y e); back = λ y h. ap (at_line number) (all.back y h) }
+at {S} {r} {P} number all = record { reported = λ y e. all.reported y (reported r y e); back = λ y h. ap (at_line number) (all.back y h) }
   where
-    told : (r : Result S TextKind) (y : S) → at_line number r ≡ Ok y → r ≡ Ok y
-    told (Ok x) y e = ap Ok (same x y e)
-    told (Err kind) y e = absurd cc
+    reported : (r : Result S TextKind) (y : S) → at_line number r ≡ Ok y → r ≡ Ok y
+    reported (Ok x) y e = ap Ok (same x y e)
+    reported (Err kind) y e = absurd cc
 
 module _ {S : Type 0} (admit : S → List ℕ → Result S TextKind) where
-  -- a line that states something, and then more
+  -- a valid line, and then more
   pub line_then : (s t u : S) (line : Line) (more : List Line) → admit s line.text ≡ Ok t → read_lines admit t more ≡ Ok u
       → read_lines admit s (line ∷ more) ≡ Ok u
-  line_then s t u line more is behind = rw is behind
+  line_then s t u line more is following = rw is following
 
-  -- lines that state something, and then more
+  -- valid lines, and then more
   pub read_both : (s t : S) (lines more : List Line) → read_lines admit s lines ≡ Ok t
       → read_lines admit s (lines ++ more) ≡ read_lines admit t more
   read_both s t [] more e = let same : s ≡ t = cc in ap (λ s. read_lines admit s more) same
@@ -36,9 +36,9 @@ module _ {S : Type 0} (admit : S → List ℕ → Result S TextKind) where
 
   pub lines_then : (s t u : S) (lines more : List Line) → read_lines admit s lines ≡ Ok t → read_lines admit t more ≡ Ok u
       → read_lines admit s (lines ++ more) ≡ Ok u
-  lines_then s t u lines more first behind = read_both s t lines more first ∙ behind
+  lines_then s t u lines more first following = read_both s t lines more first ∙ following
 
-  -- where lines are refused, one of them is the first faulty one
+  -- if lines are rejected, one of them is the first invalid one
   pub first_fault : (lines : List Line) (s : S) (fault : LineFault) → read_lines admit s lines ≡ Err fault → IsFirstFault admit s lines fault
   first_fault [] s fault e = absurd cc
   first_fault (line ∷ lines) s fault e = by (λ next e. first_fault lines next fault e) (admit s line.text) refl e
@@ -51,7 +51,7 @@ module _ {S : Type 0} (admit : S → List ℕ → Result S TextKind) where
           record {
             before = line ∷ later.before;
             bad = later.bad;
-            behind = later.behind;
+            following = later.following;
             cut = ap (λ lines. line ∷ lines) later.cut;
             place = later.place;
             state = later.state;
@@ -64,7 +64,7 @@ module _ {S : Type 0} (admit : S → List ℕ → Result S TextKind) where
           record {
             before = [];
             bad = line;
-            behind = lines;
+            following = lines;
             cut = refl;
             place = sym (ap (λ (f : LineFault). f.line) same);
             state = s;
@@ -72,7 +72,7 @@ module _ {S : Type 0} (admit : S → List ℕ → Result S TextKind) where
             fails = is ∙ ap (λ (f : LineFault). Err f.kind) same;
           }
 
--- lines that are read into a state which keeps something beside what they state
+-- lines read into a state that stores more than their contents
 pub kept_beside : {S T : Type 0} (state : S → T) (admit : S → List ℕ → Result S TextKind) (other : T → List ℕ → Result T TextKind)
     → ((s : S) (line : List ℕ) → other (state s) line ≡ (admit s line >>= λ next. Ok (state next)))
     → (s : S) (lines : List Line) → read_lines other (state s) lines ≡ (read_lines admit s lines >>= λ last. Ok (state last))

@@ -1,4 +1,4 @@
--- Plain bytes, of which fields and lines are made: a field of them is cut off as it stands.
+-- Plain bytes, which fields and lines consist of: a field of them is read unchanged.
 use Rattle.std.proofs.Common.{◌≡◌, ℕ, ◌<◌, Bool, true, false, not, ◌&&◌, List, [], ◌∷◌, ◌++◌, length, arith, refl}
 use Rattle.std.specs.Prelude.{nat_lt, ◌==◌}
 use Rattle.std.specs.List.{list_all, list_any}
@@ -51,7 +51,7 @@ not_mark c h = grind (arith, nat_tests)
 pub number_byte : (c : ℕ) → IsPlainByte c → is_plain c ≡ true
 number_byte c h = grind (arith, nat_tests)
 
--- fields: a field is what stands before a blank or the end
+-- fields: a field ends before a blank or at the end
 pub first_field : (c : ℕ) (cs rest : List ℕ) → list_all is_plain (c ∷ cs) ≡ true → is_ended rest ≡ true
     → fields_of (c ∷ (cs ++ rest)) ≡ (c ∷ cs) ∷ fields_of rest
 first_field c [] rest h ended = let parts = and_parts (is_plain c) true h in rw (not_blank c parts.0, ended) refl

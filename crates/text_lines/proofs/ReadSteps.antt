@@ -1,4 +1,4 @@
--- What a step of reading shows where it found no fault.
+-- The consequences of a step of reading without an error.
 use Rattle.std.specs.Prelude.{◌≡◌, Bool, true, false, Result, Ok, Err, if◌then◌else◌}
 use Rattle.std.proofs.Common.{refl}
 use Rattle.pit_units.specs.Steps.{◌>>=◌}
@@ -6,7 +6,7 @@ use Rattle.text_lines.specs.Reading.{in_file}
 use Rattle.text_lines.specs.declared.text_fault.LineFault.{LineFault}
 use Rattle.text_lines.specs.declared.text_fault.TextFile.{TextFile}
 
--- a step behind another one; the part is told what both found, since a `let` would write them out at each place
+-- a step after another; the part has both values as arguments, because a `let` would copy them to each use
 pub bind_ok : {A B F : Type 0} (r : Result A F) (next : A → Result B F) (y : B) → (r >>= next) ≡ Ok y → (x : A) × (r ≡ Ok x)
     × (next x ≡ Ok y)
 bind_ok (Ok x) next y e = (x, refl, e)
@@ -16,7 +16,7 @@ pub bind_then : {A B F P : Type 0} (r : Result A F) (next : A → Result B F) (y
     → ((x : A) → r ≡ Ok x → next x ≡ Ok y → P) → P
 bind_then r next y e part = let b = bind_ok r next y e in part b.0 b.1 b.2
 
--- a step behind a test that has to hold
+-- a step after a test that must pass
 pub then_ok : {A F : Type 0} (t : Bool) (fault : F) (r : Result A F) (y : A) → (if t then r else Err fault) ≡ Ok y → (t ≡ true) × (r ≡ Ok y)
 then_ok true fault r y e = (refl, e)
 then_ok false fault r y e = absurd cc

@@ -1,4 +1,4 @@
--- The words that show a faulty line of the texts of an instance.
+-- The text of an invalid line of an instance's texts.
 use Rattle.std.specs.Prelude.{ℕ, List, ◌++◌, codes, decimal}
 use Rattle.text_lines.specs.declared.text_fault.TextFault.{TextFault}
 use Rattle.text_lines.specs.declared.text_fault.TextFile.{TextFile}

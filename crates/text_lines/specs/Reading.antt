@@ -1,4 +1,4 @@
--- Reading the lines of a text one after the other, up to the first faulty one, and what a reader answers of it.
+-- The lines of a text one after the other, up to the first invalid one, and the result of a reader.
 use Rattle.std.specs.Prelude.{◌≡◌, ℕ, List, [], ◌∷◌, ◌++◌, Result, Ok, Err}
 use Rattle.pit_units.specs.Steps.{◌>>=◌}
 use Rattle.pit_units.specs.OrMemory.{Gives}
@@ -10,29 +10,30 @@ use Rattle.text_lines.specs.declared.text_fault.TextFault.{TextFault}
 use Rattle.text_lines.specs.declared.text_fault.TextFile.{TextFile}
 use Rattle.text_lines.specs.declared.text_fault.TextKind.{TextKind}
 
--- a kind of fault, at the line of this number
+-- an error, at the line of this number
 abbrev pub at_line : {S : Type 0} → ℕ → Result S TextKind → Result S LineFault
 at_line n (Ok s) = Ok s
 at_line n (Err kind) = Err (record { line = n; kind = kind })
 
--- what these lines say after those before them, where a rule admits each line after those before it; or the first faulty line
+-- the contents of these lines after the lines before them, if a rule admits each line after the lines before it; or the first invalid
+-- line
 abbrev pub read_lines : {S : Type 0} → (S → List ℕ → Result S TextKind) → S → List Line → Result S LineFault
 read_lines admit so_far [] = Ok so_far
 read_lines admit so_far (line ∷ lines) = at_line line.number (admit so_far line.text) >>= λ next. read_lines admit next lines
 
--- the fault is that of the first faulty line: those before it state something, and behind that the line has a fault of this kind
+-- the error is the error of the first invalid line: the lines before it are valid, and after them the line has this error
 pub record IsFirstFault {S : Type 0} (admit : S → List ℕ → Result S TextKind) (so_far : S) (lines : List Line)
     (fault : LineFault) : Type 0 where
   pub before : List Line
   pub bad : Line
-  pub behind : List Line
-  pub cut : lines ≡ before ++ bad ∷ behind
+  pub following : List Line
+  pub cut : lines ≡ before ++ bad ∷ following
   pub place : fault.line ≡ bad.number
   pub state : S
   pub stated : read_lines admit so_far before ≡ Ok state
   pub fails : admit state bad.text ≡ Err fault.kind
 
--- a faulty line, in a file
+-- an invalid line, in a file
 abbrev pub fault_in_file : TextFile → LineFault → TextFault
 fault_in_file file fault = record { file = file; line = fault.line; kind = fault.kind }
 
@@ -40,11 +41,11 @@ abbrev pub in_file : {A : Type 0} → TextFile → Result A LineFault → Result
 in_file file (Ok x) = Ok x
 in_file file (Err fault) = Err (fault_in_file file fault)
 
--- why a file was not read, of an instance
+-- the reason why a file of an instance was not read
 abbrev pub error_in_file : TextFile → OrMemory LineFault → OrMemory TextFault
 error_in_file file (Fault fault) = Fault (fault_in_file file fault)
 error_in_file file OutOfMemory = OutOfMemory
 
--- a call that takes lines leaves this state, and it is the stated one; or it answers the stated fault, unless memory was refused
+-- a call that reads lines leaves the stated state, or it returns the stated error, unless memory was refused
 abbrev pub Leaves : {S A F : Type 0} → S → Result A (OrMemory F) → Result S F → Type 0
 Leaves after = Gives (λ _. after)

@@ -1,4 +1,4 @@
--- What the lines of a text and the fields of a line are made of.
+-- The bytes of lines, and of the fields of a line.
 use Rattle.std.specs.Prelude.{◌≡◌, ◌≢◌, ℕ, ◌≤◌, false, true, List, length, All}
 use Rattle.records.specs.Cells.{is_blank}
 

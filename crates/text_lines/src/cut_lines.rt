@@ -1,4 +1,4 @@
-//! The lines of a text that is read.
+//! Cuts a text into lines.
 
 ghost use Rattle.std.specs.Prelude.{◌≡◌, ◌<◌, ◌≤◌, ◌==◌, ◌∷◌, length};
 ghost use Rattle.std.specs.List.{position_or_len};
@@ -9,7 +9,7 @@ use memchr::memchr;
 use pit_units::after;
 use records::cells::without_leading_blanks;
 
-/// The text without one byte order mark at its front.
+/// Returns the text without one byte order mark at its start.
 pub fn without_mark(text: &[u8]) -> &[u8]
     ensures { result.now ≡ without_mark text.now }
 {
@@ -19,7 +19,7 @@ pub fn without_mark(text: &[u8]) -> &[u8]
     }
 }
 
-/// The first line of a text, without its LF, and the text behind it.
+/// Returns the first line of a text, without its LF, and the text after it.
 #[tactic(auto, using(crate::proofs::Cuts::line_cut))]
 pub fn cut_line(text: &[u8]) -> (&[u8], &[u8])
     requires { 0 < length text.now }
@@ -38,17 +38,17 @@ fn line_end(text: &[u8]) -> usize
     memchr(b'\n', text).unwrap_or(text.len())
 }
 
-/// The line without one CR at its end.
+/// Returns the line without one CR at its end.
 pub fn strip_carriage_return(line: &[u8]) -> &[u8]
     ensures { result.now ≡ strip_carriage_return line.now }
 {
     match line {
-        [front @ .., b'\r'] => front,
+        [prefix @ .., b'\r'] => prefix,
         _ => line,
     }
 }
 
-/// Whether a line is left out: blanks alone, or blanks and then `%`.
+/// Returns whether a line is skipped: it has only blanks, or blanks followed by `%`.
 pub fn is_skipped(line: &[u8]) -> bool
     ensures { result ≡ is_skipped line.now }
 {

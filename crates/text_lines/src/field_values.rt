@@ -1,4 +1,4 @@
-//! What a field of a line states.
+//! The values of fields.
 
 ghost use Rattle.std.specs.Prelude.{◌≡◌, ◌<◌, ◌≤◌, IfOk};
 ghost use Rattle.text_lines.specs.StatedFields.{decimal_in, size_in, below_in};
@@ -6,11 +6,11 @@ ghost use Rattle.text_lines.specs.StatedFields.{decimal_in, size_in, below_in};
 use crate::text_fault::TextKind;
 use pit_units::{Dec, MILLIONTHS, parse_dec, parse_within};
 
-/// The whole number that a field states, below `limit`.
+/// Returns the integer in a field, if it is below `limit`.
 ///
 /// # Errors
 ///
-/// The first that applies of `Number`, `TooFine` and `Range`.
+/// Returns the first that applies: `Number`, `TooFine` or `Range`.
 #[tactic(auto, unfolding(crate::specs::StatedFields::below_in))]
 #[inline(always)]
 pub fn below_in(field: &[u8], limit: u64) -> Result<u64, TextKind>
@@ -20,11 +20,12 @@ pub fn below_in(field: &[u8], limit: u64) -> Result<u64, TextKind>
     Ok(parse_within(field, 0, 0, i128::from(limit) * MILLIONTHS - 1)?.whole())
 }
 
-/// The millionths that a field states with at most so many decimals, from 0 to `most`.
+/// Returns the millionths of the number in a field, which must have at most `decimals` decimals (further zeros do not count) and be from
+/// 0 to `most` millionths.
 ///
 /// # Errors
 ///
-/// Those of `below_in`.
+/// Fails like `below_in`.
 #[tactic(auto, unfolding(crate::specs::StatedFields::size_in))]
 #[inline(always)]
 pub fn size_in(field: &[u8], decimals: u8, most: u64) -> Result<u64, TextKind>
@@ -35,11 +36,11 @@ pub fn size_in(field: &[u8], decimals: u8, most: u64) -> Result<u64, TextKind>
     Ok(parse_within(field, decimals, 0, i128::from(most))?.millionths() as u64)
 }
 
-/// The decimal that a field states.
+/// Returns the decimal in a field.
 ///
 /// # Errors
 ///
-/// Those of `below_in`, the range being that of all decimals.
+/// Fails like `below_in`, with the range of all decimals.
 #[tactic(auto, unfolding(crate::specs::StatedFields::decimal_in))]
 pub fn decimal_in(field: &[u8]) -> Result<Dec, TextKind>
     ensures { result ≡ decimal_in field.now }

@@ -1,4 +1,4 @@
-//! The lines and fields of a text, what its numbers say, and which line is the first faulty one.
+//! The lines and fields of a text, the numbers in fields, and the first invalid line.
 #![tactic(auto)]
 
 pub mod cut_lines;

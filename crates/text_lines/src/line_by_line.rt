@@ -1,4 +1,4 @@
-//! Reading the lines of a text one after the other.
+//! Reads the lines of a text one after the other.
 
 ghost use Rattle.std.specs.Prelude.{◌≡◌, ℕ, ◌+◌, ◌<◌, ◌^◌, List, Result, IfOk, length};
 ghost use Rattle.text_lines.specs.Reading.{Leaves, at_line, read_lines};
@@ -9,26 +9,25 @@ use crate::cut_lines::{cut_line, is_skipped, strip_carriage_return, without_mark
 use crate::text_fault::{LineFault, TextKind};
 use pit_units::OrMemory;
 
-/// What the lines of a text so far state.
+/// The contents of the lines of a text so far.
 pub trait Admit {
-    /// What a state is behind one more line, or what is wrong with the line.
+    /// The state after the next line, or the error of the line.
     ghost admit_line: { Self → List ℕ → Result Self Kind };
 
-    /// Takes one more line, which is not one that is skipped.
+    /// Admits the next line, which must not be a skipped line.
     ///
     /// # Errors
     ///
-    /// The line is faulty behind those before it, or memory was refused. What the lines state is then of no use.
+    /// The line is invalid after the lines before it, or memory was refused. The state is then invalid.
     fn admit(&mut self, line: &[u8]) -> Result<(), OrMemory<TextKind>>
         ensures { Leaves self.new result (admit_line self.old line.now) };
 }
 
-/// Takes the lines of a text that are not skipped, and answers the number of the line after the last.
+/// Passes the lines of a text that are not skipped to `state`, and returns the number of the line after the last.
 ///
 /// # Errors
 ///
-/// The first line that the state refuses, or `OutOfMemory` where memory was refused in taking one. What the state then
-/// holds is of no use.
+/// The first line that the state rejects, or `OutOfMemory` if memory was refused. The state is then invalid.
 pub fn read_lines<S: Admit>(state: &mut S, text: &[u8]) -> Result<u64, OrMemory<LineFault>>
     ensures read { Leaves state.new result (read_lines S.admit_line state.old (lines_in text.now)) }
     ensures number { IfOk result (λ n. n ≡ end_of text.now) }
@@ -36,12 +35,12 @@ pub fn read_lines<S: Admit>(state: &mut S, text: &[u8]) -> Result<u64, OrMemory<
     read_on(state, 1, without_mark(text))
 }
 
-/// Takes the lines of a part of a text that are not skipped, the first line having this number, and answers the number
-/// of the line after the last.
+/// Passes the lines of a part of a text that are not skipped to `state`, and returns the number of the line after the last. The first
+/// line of the part has the number `first`.
 ///
 /// # Errors
 ///
-/// Those of `read_lines`.
+/// Fails like `read_lines`.
 pub fn read_on<S: Admit>(state: &mut S, first: u64, part: &[u8]) -> Result<u64, OrMemory<LineFault>>
     requires { first + length part.now < 2 ^ 64 }
     ensures read { Leaves state.new result
@@ -51,13 +50,13 @@ pub fn read_on<S: Admit>(state: &mut S, first: u64, part: &[u8]) -> Result<u64, 
     let mut number = first;
     let mut rest = part;
     while !rest.is_empty() {
-        let (whole, behind) = cut_line(rest);
+        let (whole, following) = cut_line(rest);
         let line = strip_carriage_return(whole);
         if !is_skipped(line) {
             admit_at(state, number, line)?;
         }
         number += 1;
-        rest = behind;
+        rest = following;
     }
     Ok(number)
 }

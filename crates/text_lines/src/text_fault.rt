@@ -1,4 +1,4 @@
-//! What is wrong with a MineLib text.
+//! Errors of MineLib texts.
 
 ghost use Rattle.std.specs.Prelude.{◌≡◌};
 ghost use Rattle.text_lines.specs.Reading.{error_in_file, fault_in_file};
@@ -36,33 +36,34 @@ impl fmt::Display for TextFile {
     }
 }
 
-/// What is wrong with a line of a MineLib text. Where several kinds apply to a line, the first in this order is meant:
+/// The error of a line of a MineLib text. If several kinds apply to a line, the first in this order is returned:
 ///
-/// - an unknown key, a key that stands twice, the number of fields (of a limit 5 where the third is `I`, else 4);
+/// - an unknown key, a repeated key, the number of fields (of a limit: 5 if the third is `I`, else 4);
 /// - the fields left to right, each by `Number`, `TooFine`, `Range` and `Name`;
-/// - `Order`, `Count`, predecessors that stand twice, `Missing`.
+/// - `Order`, `Count`, repeated predecessors, `Missing`.
 #[derive(Clone, Copy, Debug, Error, PartialEq, Eq)]
 pub enum TextKind {
     /// The line has too few or too many fields.
     Fields,
-    /// A field is no decimal number.
+    /// A field is not a decimal number.
     Number,
     /// A number has more decimals than its field allows.
     TooFine,
     /// A number is out of range.
     Range,
-    /// An identifier is not the next one, coefficients or limits do not rise, or an interval's ends are the wrong way round.
+    /// An identifier is not the next one, coefficients or limits do not ascend, or the ends of an interval are swapped.
     Order,
-    /// The stated number of predecessors is not the number of those that stand, or NBLOCKS is not the number of blocks.
+    /// The stated number of predecessors is not the number of listed predecessors, or NBLOCKS is not the number of blocks.
     Count,
-    /// A header key stands before, or a predecessor stands twice or is the block itself.
+    /// A header key is repeated, or a predecessor is repeated or is the block itself.
     Twice,
-    /// The key is unknown, a header key stands behind a section's, a section is not the next one, or a line without a key stands before the first
-    /// section.
+    /// The key is unknown, a header key follows a section's key, a section is not the next one, or a line without a key comes before the
+    /// first section.
     Key,
-    /// A section begins while header keys or objective lines are lacking, or the text ends while lines, keys or sections are lacking.
+    /// A section begins although header keys or objective lines are missing, or the text ends although lines, keys or sections are
+    /// missing.
     Missing,
-    /// NAME is no NAME, TYPE is not that of the file, or a limit letter is not `L`, `G` or `I`.
+    /// NAME is not a NAME, TYPE is not the type of the file, or a limit letter is not `L`, `G` or `I`.
     Name,
 }
 
@@ -90,9 +91,9 @@ impl fmt::Display for TextKind {
 
 impl From<DecFault> for TextKind {
     ghost use Rattle.std.specs.Prelude.{◌≡◌, Err};
-    ghost use Rattle.text_lines.specs.StatedFields.{number_said};
+    ghost use Rattle.text_lines.specs.StatedFields.{number_in_field};
 
-    ghost from_gives = { λ fault kind. Err kind ≡ number_said (Err fault) };
+    ghost from_gives = { λ fault kind. Err kind ≡ number_in_field (Err fault) };
 
     fn from(fault: DecFault) -> TextKind {
         match fault {
@@ -113,8 +114,8 @@ impl From<TextKind> for OrMemory<TextKind> {
     }
 }
 
-/// A faulty line of a text: its number, from 1, and what is wrong with it. Where something is missing at the end of the
-/// text, the number is one more than the text has lines.
+/// An invalid line of a text: its number, from 1, and its error. If something is missing at the end of the text, the number is the number
+/// of lines + 1.
 #[derive(Clone, Copy, Debug, PartialEq, Eq)]
 pub struct LineFault {
     pub line: u64,
@@ -122,7 +123,7 @@ pub struct LineFault {
 }
 
 impl LineFault {
-    /// The same, where the text is this file of an instance.
+    /// Returns the error with the file of an instance that has the text.
     pub fn in_file(self, file: TextFile) -> TextFault
         ensures { result ≡ fault_in_file file self }
     {
@@ -131,11 +132,11 @@ impl LineFault {
     }
 }
 
-/// The first faulty line of the texts of an instance.
+/// The first invalid line of an instance's texts.
 #[derive(Clone, Copy, Debug, Error, PartialEq, Eq)]
 pub struct TextFault {
     pub file: TextFile,
-    /// The number of the line, from 1; where something is missing at the end, the number of lines and one more.
+    /// The number of the line, from 1; if something is missing at the end, the number of lines + 1.
     pub line: u64,
     pub kind: TextKind,
 }
@@ -152,7 +153,7 @@ impl fmt::Display for TextFault {
     }
 }
 
-/// Why the texts of an instance were not read, where it is this file of them.
+/// Returns the error with the file of an instance that was not read.
 pub fn error_in_file(error: OrMemory<LineFault>, file: TextFile) -> OrMemory<TextFault>
     ensures { result ≡ error_in_file file error }
 {

@@ -1,4 +1,4 @@
-//! The fields of a line: what stands between runs of blanks.
+//! The fields of a line: the bytes between blanks.
 
 ghost use Rattle.std.specs.Prelude.{◌≡◌, ◌<◌, ◌≤◌, ◌∷◌, ◌*◌, ◌^◌, ◌==◌, [], not, pos, length, nat_lt, position, IfOk, IfSome, MatchOption};
 ghost use Rattle.std.specs.List.{position_or_len};
@@ -11,10 +11,10 @@ ghost use Rattle.text_lines.specs.inner.Taken.{TakesDecimal};
 
 use crate::field_values::{below_in, decimal_in, size_in};
 use crate::text_fault::TextKind;
-use pit_units::{after, front_dec, front_whole};
+use pit_units::{after, leading_dec, leading_integer};
 use records::cells::{is_blank, without_leading_blanks};
 
-/// The first field of a line and what stands behind it, or `None` where the line has no field.
+/// Returns the first field of a line and the bytes after it, or `None` if the line has no field.
 #[inline(always)]
 pub fn next_field(line: &[u8]) -> Option<(&[u8], &[u8])>
     ensures cut { MatchOption result (fields_of line.now ≡ [])
@@ -45,21 +45,20 @@ fn blank_place(text: &[u8]) -> Option<usize>
     text.iter().position(|byte| is_blank(*byte))
 }
 
-/// The number of fields of a line.
+/// Returns the number of fields of a line.
 pub fn count_fields(line: &[u8]) -> usize
     ensures { result ≡ length (fields_of line.now) }
 {
     let mut count = 0;
     let mut rest = line;
-    while let Some((_, behind)) = next_field(rest) {
+    while let Some((_, following)) = next_field(rest) {
         count += 1;
-        rest = behind;
+        rest = following;
     }
     count
 }
 
-/// The kind of the fault of a line in whose fields the fault `met` was met: `met` where the line has `width` fields,
-/// and else `Fields`.
+/// Returns the error of a line with the error `met` in its fields: `met` if the line has `width` fields, else `Fields`.
 #[inline(never)]
 pub fn fault_kind_of_line(line: &[u8], width: usize, met: TextKind) -> TextKind
     ensures { result ≡ kind_by (length (fields_of line.now) == width) met }
@@ -71,40 +70,40 @@ pub fn fault_kind_of_line(line: &[u8], width: usize, met: TextKind) -> TextKind
     }
 }
 
-/// Whether a line has fewer than two fields. What stands behind the second is not looked at.
+/// Returns whether a line has fewer than two fields. Does not look at the bytes after the second.
 pub fn lacks_two_fields(line: &[u8]) -> bool
     ensures { result ≡ nat_lt (length (fields_of line.now)) 2 }
 {
     match next_field(line) {
-        Some((_, behind)) => next_field(behind).is_none(),
+        Some((_, following)) => next_field(following).is_none(),
         None => true,
     }
 }
 
-/// Whether a line has a field.
+/// Returns whether a line has a field.
 #[inline(always)]
-#[tactic(auto, using(crate::proofs::FrontFields::none_past_blanks))]
+#[tactic(auto, using(crate::proofs::LeadingFields::none_past_blanks))]
 pub fn has_field(line: &[u8]) -> bool
     ensures { result ≡ not (length (fields_of line.now) == 0) }
 {
     !without_leading_blanks(line).is_empty()
 }
 
-/// The whole number of the first field, below `limit`, and what stands behind it.
+/// Returns the integer in the first field, if it is below `limit`, and the bytes after the field.
 ///
 /// # Errors
 ///
-/// `Fields` where the line has no field, else those of `below_in`.
+/// `Fields` if the line has no field, else fails like `below_in`.
 #[inline(always)]
-#[tactic(auto, using(crate::proofs::FrontFields::whole_taken, crate::proofs::FrontFields::whole_refused))]
-pub fn first_whole(line: &[u8], limit: u64) -> Result<(u64, &[u8]), TextKind>
+#[tactic(auto, using(crate::proofs::LeadingFields::whole_taken, crate::proofs::LeadingFields::whole_refused))]
+pub fn first_integer(line: &[u8], limit: u64) -> Result<(u64, &[u8]), TextKind>
     ensures value { Takes result (first_by (below_in limit) (fields_of line.now)) }
     ensures below { IfOk result (λ x. x.0 < limit) }
 {
-    match front_whole_field(line) {
-        Some((number, behind)) => {
+    match leading_integer_field(line) {
+        Some((number, following)) => {
             if number < limit {
-                Ok((number, behind))
+                Ok((number, following))
             } else {
                 Err(TextKind::Range)
             }
@@ -113,23 +112,24 @@ pub fn first_whole(line: &[u8], limit: u64) -> Result<(u64, &[u8]), TextKind>
     }
 }
 
-/// The millionths of the first field, with at most so many decimals, from 0 to `most`, and what stands behind it.
+/// Returns the millionths of the number in the first field, which must have at most `decimals` decimals and be from 0 to `most`
+/// millionths, and the bytes after the field.
 ///
 /// # Errors
 ///
-/// `Fields` where the line has no field, else those of `size_in`.
+/// `Fields` if the line has no field, else fails like `size_in`.
 #[inline(always)]
-#[tactic(auto, using(crate::proofs::FrontFields::size_taken, crate::proofs::FrontFields::size_refused))]
+#[tactic(auto, using(crate::proofs::LeadingFields::size_taken, crate::proofs::LeadingFields::size_refused))]
 pub fn first_size(line: &[u8], decimals: u8, most: u64) -> Result<(u64, &[u8]), TextKind>
     requires { decimals ≤ 6 }
     ensures value { Takes result (first_by (size_in decimals most) (fields_of line.now)) }
     ensures in_range { IfOk result (λ x. x.0 ≤ most) }
 {
-    match front_dec_field(line, decimals) {
-        Some((millionths, behind)) => {
+    match leading_dec_field(line, decimals) {
+        Some((millionths, following)) => {
             let size = millionths.unsigned_abs();
             if 0 <= millionths && size <= most {
-                Ok((size, behind))
+                Ok((size, following))
             } else {
                 Err(TextKind::Range)
             }
@@ -138,51 +138,51 @@ pub fn first_size(line: &[u8], decimals: u8, most: u64) -> Result<(u64, &[u8]), 
     }
 }
 
-/// The millionths of the decimal of the first field, and what stands behind it.
+/// Returns the millionths of the decimal in the first field, and the bytes after the field.
 ///
 /// # Errors
 ///
-/// `Fields` where the line has no field, else those of `decimal_in`.
+/// `Fields` if the line has no field, else fails like `decimal_in`.
 #[inline(always)]
-#[tactic(auto, using(crate::proofs::FrontFields::decimal_taken))]
+#[tactic(auto, using(crate::proofs::LeadingFields::decimal_taken))]
 pub fn first_millionths(line: &[u8]) -> Result<(i128, &[u8]), TextKind>
     ensures value { Takes result (first_by decimal_in (fields_of line.now)) }
     ensures in_range { IfOk result (λ x. IsInDecimalRange x.0) }
 {
-    match front_dec_field(line, 6) {
-        Some((millionths, behind)) => Ok((i128::from(millionths), behind)),
+    match leading_dec_field(line, 6) {
+        Some((millionths, following)) => Ok((i128::from(millionths), following)),
         None => any_millionths(line),
     }
 }
 
-// The first field as a whole number, where it is of digits alone and not too long; `None` says nothing of it.
+// Returns the first field as an integer, if it has only digits and not too many; `None` means nothing about it.
 #[inline(always)]
-#[tactic(auto, using(crate::proofs::FrontFields::field_in_front))]
-fn front_whole_field(line: &[u8]) -> Option<(u64, &[u8])>
+#[tactic(auto, using(crate::proofs::LeadingFields::field_leads))]
+fn leading_integer_field(line: &[u8]) -> Option<(u64, &[u8])>
     ensures { IfSome result (λ x. TakesDecimal 0 line.now (pos (x.0 * 10 ^ 6)) x.1.now) }
 {
-    let (number, behind) = front_whole(without_leading_blanks(line))?;
-    if !is_ended(behind) {
+    let (number, following) = leading_integer(without_leading_blanks(line))?;
+    if !is_ended(following) {
         return None;
     }
-    Some((number, behind))
+    Some((number, following))
 }
 
-// The millionths of the first field, where it is a decimal as most are; `None` says nothing of it.
+// Returns the millionths of the first field, if it is a decimal in the usual form; `None` means nothing about it.
 #[inline(always)]
-#[tactic(auto, using(crate::proofs::FrontFields::field_in_front))]
-fn front_dec_field(line: &[u8], decimals: u8) -> Option<(i64, &[u8])>
+#[tactic(auto, using(crate::proofs::LeadingFields::field_leads))]
+fn leading_dec_field(line: &[u8], decimals: u8) -> Option<(i64, &[u8])>
     requires { decimals ≤ 6 }
     ensures { IfSome result (λ x. TakesDecimal decimals line.now x.0 x.1.now) }
 {
-    let (millionths, behind) = front_dec(without_leading_blanks(line), decimals)?;
-    if !is_ended(behind) {
+    let (millionths, following) = leading_dec(without_leading_blanks(line), decimals)?;
+    if !is_ended(following) {
         return None;
     }
-    Some((millionths, behind))
+    Some((millionths, following))
 }
 
-// Whether a field ends before these bytes.
+// Returns whether a field ends before these bytes.
 #[inline(always)]
 fn is_ended(bytes: &[u8]) -> bool
     ensures { result ≡ is_ended bytes.now }
@@ -199,7 +199,7 @@ fn any_whole(line: &[u8], limit: u64) -> Result<(u64, &[u8]), TextKind>
     ensures below { IfOk result (λ x. x.0 < limit) }
 {
     match next_field(line) {
-        Some((field, behind)) => Ok((below_in(field, limit)?, behind)),
+        Some((field, following)) => Ok((below_in(field, limit)?, following)),
         None => Err(TextKind::Fields),
     }
 }
@@ -211,7 +211,7 @@ fn any_size(line: &[u8], decimals: u8, most: u64) -> Result<(u64, &[u8]), TextKi
     ensures in_range { IfOk result (λ x. x.0 ≤ most) }
 {
     match next_field(line) {
-        Some((field, behind)) => Ok((size_in(field, decimals, most)?, behind)),
+        Some((field, following)) => Ok((size_in(field, decimals, most)?, following)),
         None => Err(TextKind::Fields),
     }
 }
@@ -222,7 +222,7 @@ fn any_millionths(line: &[u8]) -> Result<(i128, &[u8]), TextKind>
     ensures in_range { IfOk result (λ x. IsInDecimalRange x.0) }
 {
     match next_field(line) {
-        Some((field, behind)) => Ok((decimal_in(field)?.millionths(), behind)),
+        Some((field, following)) => Ok((decimal_in(field)?.millionths(), following)),
         None => Err(TextKind::Fields),
     }
 }

@@ -1,27 +1,27 @@
-//! The bytes of a feed of which no line was taken yet.
+//! The bytes of a feed whose lines were not read yet.
 
 ghost use Rattle.std.specs.Prelude.{◌≡◌, ◌+◌, ◌-◌, ◌<◌, ◌≤◌, ◌^◌, length, take, IfOk, IfErr, OnOk, drop, true};
 ghost use Rattle.devices.specs.feeds.ReadWhole.{ReadsFeed};
 ghost use Rattle.devices.specs.declared.feeds.slurp.SlurpFault.TheVariants as SlurpFault;
-ghost use Rattle.devices.specs.declared.feeds.slurp.TheConstants.{GREATEST_LIMIT};
+ghost use Rattle.devices.specs.declared.feeds.slurp.TheConstants.{LARGEST_LIMIT};
 ghost use Rattle.text_lines.specs.Reading.{Leaves, read_lines};
 ghost use Rattle.text_lines.specs.TextLines.{lines_of, numbered_lines};
-ghost use Rattle.text_lines.specs.inner.Waiting.{AreWholeLines, GaveAll, Held, IsLastReading, IsPulledOnce, NoLineEnd, TakesEnded, front_end, front_lines, none_held, unmarked};
+ghost use Rattle.text_lines.specs.inner.Waiting.{AreWholeLines, GaveAll, Held, IsLastReading, IsPulledOnce, NoLineEnd, TakesEnded, leading_end, leading_lines, none_held, unmarked};
 
 use crate::cut_lines::without_mark;
 use crate::fed_lines::FedResult;
 use crate::line_by_line::{Admit, read_on};
 use crate::text_fault::LineFault;
 use devices::feeds::feed::Feed;
-use devices::feeds::filling::{make_room, pull_behind};
-use devices::feeds::slurp::{GREATEST_LIMIT, SlurpFault};
+use devices::feeds::filling::{make_room, pull_after};
+use devices::feeds::slurp::{LARGEST_LIMIT, SlurpFault};
 use memchr::memrchr;
 use pit_units::OrMemory;
 use std::alloc::Global;
 use std::marker::Model;
 
-/// Bytes that a feed gave and of which no line was taken, and the number of their first line. They grow with the longest
-/// line, and not with the text: `take_ended` leaves no line end in what is held.
+/// Bytes that a feed gave and whose lines were not read yet, and the number of their first line. They grow with the longest line, and not
+/// with the text: `take_ended` leaves no line end in the held bytes.
 #[derive(Drop)]
 pub struct Waiting {
     number: u64,
@@ -32,7 +32,7 @@ pub struct Waiting {
 
 impl Model for Waiting {
     ghost use Rattle.std.specs.Prelude.{◌≤◌, ◌+◌, take, vec_len};
-    ghost use Rattle.devices.specs.declared.feeds.slurp.TheConstants.{GREATEST_LIMIT};
+    ghost use Rattle.devices.specs.declared.feeds.slurp.TheConstants.{LARGEST_LIMIT};
     ghost use Rattle.text_lines.specs.inner.Waiting.{WaitingView};
 
     ghost Value = { WaitingView };
@@ -43,11 +43,11 @@ impl Model for Waiting {
       held = take w.filled w.bytes.items;
     } };
 
-    ghost invariant = { λ w. (w.filled ≤ vec_len w.bytes) × (vec_len w.bytes ≤ GREATEST_LIMIT + 1) };
+    ghost invariant = { λ w. (w.filled ≤ vec_len w.bytes) × (vec_len w.bytes ≤ LARGEST_LIMIT + 1) };
 }
 
 impl Waiting {
-    /// Before the first byte. It takes no memory yet.
+    /// Creates the value before the first byte. Allocates no memory yet.
     pub fn new(alloc: Global) -> Waiting
         ensures { result ≡ none_held }
     {
@@ -59,44 +59,43 @@ impl Waiting {
         }
     }
 
-    /// How many bytes are held.
+    /// Returns the number of held bytes.
     pub fn len(&self) -> usize
         ensures { result ≡ length self.now.held }
     {
         self.filled
     }
 
-    /// Holds what one pull gives, at most `most` bytes, and answers how many these are: 0 means that the feed has ended.
+    /// Holds the bytes of one pull, at most `most`, and returns their number: 0 means that the feed has ended.
     #[tactic(auto, using(crate::proofs::GivenFacts::pulled))]
     pub fn pull<F: Feed>(&mut self, feed: &mut F, most: usize) -> Result<usize, SlurpFault>
         requires some { 0 < most }
-        requires room { length self.old.held + most ≤ GREATEST_LIMIT + 1 }
+        requires room { length self.old.held + most ≤ LARGEST_LIMIT + 1 }
 
-        // On success what one pull gave is held behind what was held.
+        // After success, the bytes of one pull follow the held bytes.
         ensures held { IfOk result
-            (λ n. Held n self.old self.new (F.left feed.old) (F.left feed.new)) }
+            (λ n. Held n self.old self.new (F.state feed.old).remaining (F.state feed.new).remaining) }
         ensures within { IfOk result (λ n. n ≤ most) }
 
-        // When each fault comes, and where the feed stands, whatever is answered.
-        ensures pulls { IsPulledOnce F.left F.is_sure F.given F.failures feed.old feed.new result }
+        // Each error has its reason; the feed's state is known for every result.
+        ensures pulls { IsPulledOnce (F.state feed.old) (F.state feed.new) result }
     {
-        make_room(&mut self.bytes, self.filled, GREATEST_LIMIT as usize + 1)?;
-        let count = pull_behind(feed, self.bytes.as_mut_slice(), self.filled, most)?;
+        make_room(&mut self.bytes, self.filled, LARGEST_LIMIT as usize + 1)?;
+        let count = pull_after(feed, self.bytes.as_mut_slice(), self.filled, most)?;
         self.filled += count;
         Ok(count)
     }
 
-    /// Lets all bytes go by that the feed still gives, which are to be at most `limit`.
+    /// Drops all bytes that the feed still gives, which must be at most `limit`.
     #[tactic(auto, using(crate::proofs::GivenFacts::stands_on, crate::proofs::FedSteps::too_many))]
     pub fn pass<F: Feed>(&mut self, feed: &mut F, limit: usize) -> Result<(), SlurpFault>
-        requires limit { limit ≤ GREATEST_LIMIT }
+        requires limit { limit ≤ LARGEST_LIMIT }
 
-        // On success the feed gave all that it had.
-        ensures all { OnOk result (GaveAll (limit + 1) (F.given feed.new - F.given feed.old)
-            (F.left feed.old) (F.left feed.new)) }
+        // After success, the feed gave all its bytes.
+        ensures all { OnOk result (GaveAll (limit + 1) (F.state feed.old) (F.state feed.new)) }
 
-        // When each fault comes, how much was read, and where the feed stands, whatever was answered.
-        ensures reads { ReadsFeed F.left F.is_sure F.given F.failures limit feed.old feed.new result }
+        // Each error has its reason; the number of bytes read is bounded; the feed's state is known for every result.
+        ensures reads { ReadsFeed limit (F.state feed.old) (F.state feed.new) result }
     {
         let mut rest = limit + 1;
         while rest > 0 {
@@ -110,8 +109,8 @@ impl Waiting {
         Err(SlurpFault::TooLong)
     }
 
-    /// Takes the lines that have ended, none of them before the place `from`, and lets go of their bytes: what is held then is of one
-    /// line.
+    /// Reads the lines that have ended, none of which ends before the position `from`, and drops their bytes: the remaining held bytes
+    /// belong to one line.
     pub fn take_ended<S: Admit>(
         &mut self,
         state: &mut S,
@@ -119,7 +118,7 @@ impl Waiting {
     ) -> Result<(), OrMemory<LineFault>>
         requires within { from ≤ length self.old.held }
         requires few { self.old.number + length self.old.held < 2 ^ 64 }
-        requires front { NoLineEnd (take from self.old.held) }
+        requires prefix { NoLineEnd (take from self.old.held) }
         ensures takes { TakesEnded S.admit_line state.old state.new self.old self.new result }
         ensures held { OnOk result (NoLineEnd self.new.held) }
     {
@@ -127,33 +126,37 @@ impl Waiting {
         if whole == 0 {
             return Ok(());
         }
-        let next = self.read_front(state, whole)?;
-        self.let_go(whole, next);
+        let next = self.read_leading(state, whole)?;
+        self.drop_taken(whole, next);
         Ok(())
     }
 
-    /// Takes the lines of what is held, where the text ends there, and answers the number of the line after the last.
+    /// Reads the lines of the held bytes, which end the text, and returns the number of the line after the last.
     pub fn take_last<S: Admit>(&self, state: &mut S) -> FedResult<u64>
         requires few { self.now.number + length self.now.held < 2 ^ 64 }
         ensures read { IfOk result (IsLastReading S.admit_line state.old state.new self.now) }
         ensures memory { IfErr result (λ fault. fault ≡ SlurpFault.OutOfMemory) }
     {
-        match self.read_front(state, self.len()) {
+        match self.read_leading(state, self.len()) {
             Ok(end) => Ok(Ok(end)),
             Err(OrMemory::Fault(fault)) => Ok(Err(fault)),
             Err(OrMemory::OutOfMemory) => Err(SlurpFault::OutOfMemory),
         }
     }
 
-    // Takes the lines of the first bytes that are held, and answers the number of the line after the last.
-    fn read_front<S: Admit>(&self, state: &mut S, count: usize) -> Result<u64, OrMemory<LineFault>>
+    // Reads the lines of the first held bytes, and returns the number of the line after the last.
+    fn read_leading<S: Admit>(
+        &self,
+        state: &mut S,
+        count: usize,
+    ) -> Result<u64, OrMemory<LineFault>>
         requires within { count ≤ length self.now.held }
         requires few { self.now.number + length self.now.held < 2 ^ 64 }
         ensures read { Leaves state.new result
-            (read_lines S.admit_line state.old (front_lines self.now count)) }
-        ensures number { IfOk result (λ n. n ≡ front_end self.now count) }
+            (read_lines S.admit_line state.old (leading_lines self.now count)) }
+        ensures number { IfOk result (λ n. n ≡ leading_end self.now count) }
     {
-        read_piece(state, self.number, self.begun, &self.held()[..count])
+        read_chunk(state, self.number, self.begun, &self.held()[..count])
     }
 
     fn held(&self) -> &[u8]
@@ -162,8 +165,8 @@ impl Waiting {
         &self.bytes[..self.filled]
     }
 
-    // Lets go of the first bytes that are held, whose lines were taken. `next` is the number of the line behind them.
-    fn let_go(&mut self, count: usize, next: u64)
+    // Drops the first held bytes, whose lines were read. `next` is the number of the line after them.
+    fn drop_taken(&mut self, count: usize, next: u64)
         requires { count ≤ length self.old.held }
         ensures number { self.new.number ≡ next }
         ensures begun { self.new.begun ≡ true }
@@ -177,33 +180,33 @@ impl Waiting {
     }
 }
 
-// Takes the lines of a piece of a text, which is its front if none was taken before.
-fn read_piece<S: Admit>(
+// Reads the lines of a part of a text, which is its start if no line was read before.
+fn read_chunk<S: Admit>(
     state: &mut S,
     number: u64,
     begun: bool,
-    piece: &[u8],
+    chunk: &[u8],
 ) -> Result<u64, OrMemory<LineFault>>
-    requires { number + length piece.now < 2 ^ 64 }
+    requires { number + length chunk.now < 2 ^ 64 }
     ensures read { Leaves state.new result
         (read_lines S.admit_line state.old
-        (numbered_lines number (lines_of (unmarked begun piece.now)))) }
-    ensures number { IfOk result (λ n. n ≡ number + length (lines_of (unmarked begun piece.now))) }
+        (numbered_lines number (lines_of (unmarked begun chunk.now)))) }
+    ensures number { IfOk result (λ n. n ≡ number + length (lines_of (unmarked begun chunk.now))) }
 {
     if begun {
-        read_on(state, number, piece)
+        read_on(state, number, chunk)
     } else {
-        read_on(state, number, without_mark(piece))
+        read_on(state, number, without_mark(chunk))
     }
 }
 
-// The place behind the last byte that ends a line, of those from a place on, or 0 where none does.
+// Returns the position after the last byte that ends a line, from the position `from` on, or 0 if none does.
 fn lines_end(bytes: &[u8], from: usize) -> usize
     requires within { from ≤ length bytes.now }
-    requires front { NoLineEnd (take from bytes.now) }
+    requires prefix { NoLineEnd (take from bytes.now) }
     ensures within { result ≤ length bytes.now }
     ensures whole { 0 < result → AreWholeLines (take result bytes.now) }
-    ensures behind { NoLineEnd (drop result bytes.now) }
+    ensures following { NoLineEnd (drop result bytes.now) }
 {
     match memrchr(b'\n', &bytes[from..]) {
         Some(place) => from + place + 1,

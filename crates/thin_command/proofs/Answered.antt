@@ -1,4 +1,4 @@
--- What came of writing lists, as the answer of a run, and the text that they are.
+-- The result of writing lists as the result of a run, and the text of the lists.
 use Rattle.std.proofs.Common.{◌≡◌, ℕ, List, Result, Ok, Err, ap, inl, inr}
 use Rattle.std.specs.Prelude.{MatchResult}
 use Rattle.devices.specs.sinks.SinkState.{SinkState, IsCutOff, IsWritten}

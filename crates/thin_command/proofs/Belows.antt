@@ -1,4 +1,4 @@
--- What is left of lists has no identifiers but theirs.
+-- Reduced lists have no new identifiers.
 use Rattle.std.proofs.Common.{◌≡◌, ℕ, ◌<◌, List, [], All, get_or, length, not, subst, sym, arith}
 use Rattle.std.proofs.lemmas.List.{get_or_default, length-map}
 use Rattle.std.proofs.lemmas.List.Elements.{All-filter, All-map}
@@ -20,7 +20,7 @@ valid_below i valid k d within j e inside =
     subst (λ (ids : List ℕ). All (λ id. id < length i.blocks) ids) (sym same) (valid.preds k within).below in
     omega (arith, below j e inside, valid.lengths.preds)
 
--- what is left of the lists of a valid instance, whose identifiers are those of blocks
+-- the reduced lists of a valid instance have identifiers of blocks only
 pub valid_fewer : (i : Instance) → IsValid i
     → All (λ ids. All (λ id. id < length (fewer i.preds)) ids) (fewer i.preds)
 valid_fewer i valid =

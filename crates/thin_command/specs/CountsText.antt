@@ -1,4 +1,4 @@
--- The words that tell how many blocks there are, and how many of their arcs are left.
+-- The text of the numbers of blocks, retained arcs and all arcs.
 use Rattle.std.specs.Prelude.{ℕ, List, ◌++◌, codes}
 use Rattle.std.specs.Fmt.{decimal}
 use Rattle.thin_command.specs.declared.counts.ThinCounts.{ThinCounts}

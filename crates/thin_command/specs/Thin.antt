@@ -1,5 +1,6 @@
--- What pitc_thin does: it opens zone files, writes what is left of the predecessors of their instance, and tells how many they are.
-use Rattle.std.specs.Prelude.{◌≡◌, ℕ, ◌+◌, ◌⊎◌, Bool, List, [], ◌∷◌, ◌++◌, length, map, sum_by, Option}
+-- The results of pitc_thin: it opens zone files, writes the reduced lists of their instance, and prints the counts.
+use Rattle.std.specs.Prelude.{◌≡◌, ℕ, ◌+◌, ◌⊎◌, List, [], ◌∷◌, ◌++◌, length, sum_by, Option}
+use Rattle.devices.specs.feeds.FeedState.{FeedState, all_remaining}
 use Rattle.devices.specs.files.Opening.{Opening}
 use Rattle.devices.specs.sinks.SinkState.{SinkState, IsWritten, IsCutOff}
 use Rattle.fewer_arcs.specs.Fewer.{fewer}
@@ -28,11 +29,11 @@ use Rattle.run_threads.specs.Starts.{AreSpent, StartsView}
 use Rattle.thin_command.specs.CountsText.{counts_words}
 use Rattle.thin_command.specs.declared.counts.ThinCounts.{ThinCounts}
 
--- the precedence file of an instance with what is left of each list
+-- the precedence file of an instance with the reduced list of each block
 abbrev pub thin_text : Instance → List ℕ
 thin_text i = text_prec (record i { preds = fewer i.preds })
 
--- its blocks, the arcs that are left, and all arcs
+-- the numbers of blocks, retained arcs and all arcs
 abbrev pub counts_of : Instance → ThinCounts
 counts_of i = record { rows = length i.blocks; left = sum_by length (fewer i.preds); whole = sum_by length i.preds }
 
@@ -41,11 +42,11 @@ abbrev pub IsStopped : List ℕ → (old new : SinkState) → Refusal → Type 0
 IsStopped text old new why =
     ((why ≡ refusal.SinkFailed Prec) × IsCutOff 1 text old new) ⊎ ((why ≡ refusal.OutOfMemory) × IsCutOff 0 text old new)
 
--- of the zone files at these paths: what was opened before and is now, the starts of threads, and what the sink told before and tells now
+-- for the zone files at these paths: the files opened, the thread starts and the sink's state, each before and after
 module _ (plan : PlanParts) (paths : List (List ℕ)) (opened_old opened_new : List Opening) (starts_old starts_new : StartsView)
     (old new : SinkState) where
-  -- the files were opened in this order, and no other; they are accepted, went through a lane of this capacity, and this is their instance;
-  -- a thread ran for each valuer and file
+  -- the files were opened in this order, and no other; they are accepted, they went through a lane of this capacity, and this is their
+  -- instance; a thread ran for each valuer and file
   pub record IsRead (settings : Settings) (i : Instance) : Type 0 where
     pub lefts : List (Option (List ℕ))
     pub texts : List (List ℕ)
@@ -57,30 +58,30 @@ module _ (plan : PlanParts) (paths : List (List ℕ)) (opened_old opened_new : L
     pub instance_is : i ≡ instance_from plan texts
     pub started : AreSpent (settings.valuers + length paths) starts_new
 
-  -- the sink holds what is left
+  -- the sink holds the reduced lists
   pub record IsThinned (settings : Settings) (i : Instance) : Type 0 where
     pub read : IsRead settings i
     pub written : IsWritten (thin_text i) old new
 
-  -- the same, and the line of its counts was appended
+  -- the sink holds the reduced lists, and the line of their counts was appended
   abbrev pub TellsThinned : Settings → (out_old out_new : List ℕ) → Type 0
   TellsThinned settings out_old out_new =
       (i : Instance) × IsThinned settings i × (out_new ≡ out_old ++ (counts_words (counts_of i) ++ 10 ∷ []))
 
-  -- by what feeds have left, whether they are sure, and how many pulls they refused
-  module _ {F : Type 0} (left : F → Option (List ℕ)) (is_sure : F → Bool) (failures : F → ℕ) where
-    -- the files were opened in this order, and no other, and nothing was compiled of their feeds, for these settings and destinations, or as
-    -- `compile` refuses; the sink is as it was
+  -- by the states of feeds
+  module _ {F : Type 0} (state : F → FeedState) where
+    -- the files were opened in this order, and no other; nothing was compiled of them, because of these settings and destinations or for
+    -- a reason of `compile`; the sink is unchanged
     pub record IsRunRefused (formulas : List Formula) (settings : Settings) (why : Refusal) : Type 0 where
       pub feeds : List F
-      pub opened : AreOpened opened_old opened_new paths (map left feeds)
+      pub opened : AreOpened opened_old opened_new paths (all_remaining state feeds)
       pub faulty : (kind : SettingsFault) → why ≡ refusal.Settings kind → IsSettingsFault plan (length paths) formulas settings kind
-      pub refused : IsNotCompiled plan (map left feeds) (HasFailed is_sure failures feeds) why
+      pub refused : IsNotCompiled plan (all_remaining state feeds) (HasFailed state feeds) why
       pub starts : AreStartsOf (settings.valuers + length paths) starts_old starts_new why
       pub still : new ≡ old
 
-    -- not all files could be opened, and neither the sink nor threads were begun; or the run is refused; or the sink was cut off; or it holds
-    -- what is left, and memory for the line was refused
+    -- some file could not be opened, and neither the sink nor a thread was begun; or the run failed; or the sink was cut off; or it holds
+    -- the reduced lists, and memory for the line was refused
     abbrev pub IsNotThinned : List Formula → Settings → Refused → Type 0
     IsNotThinned formulas settings refused =
         (AreNotOpened opened_old opened_new paths refused × (new ≡ old) × (starts_new ≡ starts_old))
@@ -88,20 +89,18 @@ module _ (plan : PlanParts) (paths : List (List ℕ)) (opened_old opened_new : L
         ⊎ (((why : Refusal) × (refused ≡ Run why) × ((i : Instance) × IsRead settings i × IsStopped (thin_text i) old new why))
         ⊎ ((refused ≡ Run refusal.OutOfMemory) × ((i : Instance) × IsThinned settings i))))
 
--- the same of the plan that the file at this path states, which was opened first; `given` and `failures` are how many bytes a feed gave and how
--- many pulls it refused
+-- `TellsThinned` for the plan in the file at `path`, which was opened first, by the states of feeds
 pub record TellsThinnedFrom (path : List ℕ) (zones : List (List ℕ)) (opened_old opened_new : List Opening) (starts_old starts_new : StartsView)
-    (old new : SinkState) {F : Type 0} (given failures : F → ℕ) (settings : Settings) (out_old out_new : List ℕ) : Type 0 where
+    (old new : SinkState) {F : Type 0} (state : F → FeedState) (settings : Settings) (out_old out_new : List ℕ) : Type 0 where
   pub plan : PlanParts
   pub between : List Opening
-  pub read : IsPlanAt given failures path opened_old between plan
+  pub read : IsPlanAt state path opened_old between plan
   pub told : TellsThinned plan zones between opened_new starts_old starts_new old new settings out_old out_new
 
--- and why it is not thinned
+-- `IsNotThinned` for the plan in the file at `path`, which was opened first
 pub record IsNotThinnedFrom (path : List ℕ) (zones : List (List ℕ)) (opened_old opened_new : List Opening) (starts_old starts_new : StartsView)
-    (old new : SinkState) {F : Type 0} (left : F → Option (List ℕ)) (is_sure : F → Bool) (given failures : F → ℕ) (settings : Settings)
-    (refused : Refused) : Type 0 where
+    (old new : SinkState) {F : Type 0} (state : F → FeedState) (settings : Settings) (refused : Refused) : Type 0 where
   pub plan : PlanParts
   pub between : List Opening
-  pub read : IsPlanAt given failures path opened_old between plan
-  pub why : IsNotThinned plan zones between opened_new starts_old starts_new old new left is_sure failures (formulas_of_plan plan) settings refused
+  pub read : IsPlanAt state path opened_old between plan
+  pub why : IsNotThinned plan zones between opened_new starts_old starts_new old new state (formulas_of_plan plan) settings refused

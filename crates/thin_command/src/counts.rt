@@ -1,15 +1,15 @@
-//! How many blocks there are, and how many of their arcs are left.
+//! The numbers of blocks, retained arcs and all arcs.
 
 use std::fmt;
 
-/// The counts of a thin precedence file, shown as the line that the program prints of them.
+/// The counts of a reduced precedence file, displayed as the line that the program prints.
 #[derive(Clone, Copy, Debug, PartialEq, Eq)]
 pub struct ThinCounts {
     /// The number of blocks.
     pub rows: usize,
-    /// The number of arcs that are left.
+    /// The number of retained arcs.
     pub left: u128,
-    /// The number of arcs of the whole lists.
+    /// The number of all arcs.
     pub whole: u128,
 }
 

@@ -1,4 +1,4 @@
-//! The command of `pitc_thin`: from zone files to a precedence file with fewer arcs.
+//! The command of `pitc_thin`: from zone files to a reduced precedence file.
 #![tactic(auto)]
 
 pub mod counts;

@@ -1,4 +1,4 @@
-//! From the files of a plan and its zones to what is left of their precedences.
+//! From the files of a plan and its zones to the reduced lists of their predecessors.
 
 ghost use Rattle.std.specs.Prelude.{◌≡◌, ◌++◌, [], ◌∷◌, map, string_bytes, IfErr, IfOk, OnErr, OnOk};
 ghost use Rattle.command_io.specs.FaultLine.{IsDoneOrRefused};
@@ -10,7 +10,7 @@ ghost use Rattle.thin_command.specs.Thin.{IsNotThinned, TellsThinned};
 use crate::counts::ThinCounts;
 use crate::thin_writing::write_fewer;
 use command_io::refused::Refused;
-use command_io::refused::fault_line::tell;
+use command_io::refused::fault_line::report;
 use command_io::zone_feeds::open_all;
 use devices::files::opener::Opener;
 use devices::sinks::sink::Sink;
@@ -22,22 +22,23 @@ use std::alloc::{AllocError, Global};
 use std::sync::Wait;
 use std::thread::Threads;
 
-/// Compiles the zone files at these paths, which are opened in order, as `compile` does with a gate that is always open, and writes what
-/// is left of the predecessors of their instance into the sink, as a precedence file. Appends the line `rows N arcs M of L` to `out`: the
-/// number of blocks, that of the arcs that are left, and that of all arcs. No other file is opened.
+/// Compiles the zone files at these paths, as `compile` does with a test hook that is always open, and writes the reduced lists of their
+/// instance to the sink as a precedence file. Appends the line `rows N arcs M of L` to `out`: the numbers of blocks, retained arcs and
+/// all arcs. Opens the zone files in order, and no other file.
 ///
-/// - The first zone file that cannot be opened is refused before anything else.
-/// - The sink is not begun before all blocks are known to be different.
+/// - If a zone file cannot be opened, fails before anything else, for the first such file.
+/// - Does not begin the sink before all blocks are known to be different.
 ///
 /// # Errors
 ///
-/// `out` is as it was.
+/// `out` is unchanged.
 ///
-/// - `FeedFailed` of a zone file: it cannot be opened, and the sink is as it was.
-/// - `Run`: the zone files are refused, and the sink is as it was; or the sink failed, or memory was refused, which may be for the line
-///   alone, the text being written.
+/// - `FeedFailed` of a zone file: it cannot be opened, and the sink is unchanged.
+/// - `Run`: the zone files are rejected, and the sink is unchanged; or the sink failed; or memory was refused, perhaps for the line
+///   alone, after the text was written.
 ///
-/// The starts, which none was spent of, tell what became of them: `NoThread` is told only where one was refused before there were enough.
+/// `starts` must be unspent, and records the started threads: `NoThread` is returned only if a start was refused before there were enough
+/// threads.
 #[tactic(auto, using(crate::proofs::Thins::unopened_files))]
 pub fn thin_into<R: Threads + Wait + Sync, O: Opener, S: Sink>(
     alloc: Global,
@@ -57,8 +58,7 @@ pub fn thin_into<R: Threads + Wait + Sync, O: Opener, S: Sink>(
     ensures kept { OnErr result (out.new.items ≡ out.old.items) }
     ensures refused { IfErr result (IsNotThinned plan.now (map string_bytes zones.now)
         (O.opened files.old) (O.opened files.new) starts.old starts.new (S.state sink.old)
-        (S.state sink.new) O.Opened.left O.Opened.is_sure O.Opened.failures
-        (formulas_of destinations.now) settings) }
+        (S.state sink.new) O.Opened.state (formulas_of destinations.now) settings) }
     ensures settled { AreSettled starts.old starts.new }
 {
     let feeds = open_all(alloc, zones, files)?;
@@ -75,9 +75,9 @@ pub fn thin_into<R: Threads + Wait + Sync, O: Opener, S: Sink>(
     Ok(())
 }
 
-/// The same as `thin_into`, and returns the status that the program ends with. Where that is 0 it appends the line of the counts to `out`;
-/// else the line of the refusal to `err`. Only one of the two grows. For want of memory the status is that of memory, and both are as
-/// they were.
+/// Does the same as `thin_into`, and returns the exit status of the program. If it is 0, appends the line of the counts to `out`, else the
+/// line of the failure to `err`. Only one of the two grows. If memory is refused, the status is the status of out of memory, and both are
+/// unchanged.
 pub fn thin<R: Threads + Wait + Sync, O: Opener, S: Sink>(
     alloc: Global,
     files: &mut O,
@@ -95,8 +95,7 @@ pub fn thin<R: Threads + Wait + Sync, O: Opener, S: Sink>(
         (O.opened files.old) (O.opened files.new) starts.old starts.new (S.state sink.old)
         (S.state sink.new) settings) (IsNotThinned plan.now (map string_bytes zones.now)
         (O.opened files.old) (O.opened files.new) starts.old starts.new (S.state sink.old)
-        (S.state sink.new) O.Opened.left O.Opened.is_sure O.Opened.failures
-        (formulas_of destinations.now) settings)
+        (S.state sink.new) O.Opened.state (formulas_of destinations.now) settings)
         out.old.items out.new.items err.old.items err.new.items result }
     ensures settled { AreSettled starts.old starts.new }
 {
@@ -112,11 +111,11 @@ pub fn thin<R: Threads + Wait + Sync, O: Opener, S: Sink>(
         out,
     ) {
         Ok(()) => 0,
-        Err(refused) => tell(alloc, &refused, err),
+        Err(refused) => report(alloc, &refused, err),
     }
 }
 
-// Appends the line of the counts to `out`. Where memory is refused `out` is as it was.
+// Appends the line of the counts to `out`. If memory is refused, `out` is unchanged.
 fn append_counts(alloc: Global, counts: ThinCounts, out: &mut Vec<u8>) -> Result<(), AllocError>
     ensures told { OnOk result
         (out.new.items ≡ out.old.items ++ (counts_words counts ++ 10 ∷ [])) }

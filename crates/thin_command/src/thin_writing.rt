@@ -1,4 +1,4 @@
-//! Writing what is left of the predecessors of an instance.
+//! Writes the reduced lists of an instance.
 
 ghost use Rattle.std.specs.Prelude.{◌≡◌, ◌≤◌, length, sum_by, IfErr, IfOk, MatchResult, OnOk};
 ghost use Rattle.devices.specs.sinks.SinkState.{IsWritten};
@@ -12,7 +12,7 @@ use devices::sinks::sink::Sink;
 use devices::sinks::write_fault::WriteFault;
 use fewer_arcs::FewerPreds;
 use mine_instance::instance::Instance;
-use mine_instance::{FoundCoefs, FoundValues};
+use mine_instance::{LazyCoefs, LazyValues};
 use minelib_lines::text_name::TextName;
 use minelib_writing::{count_arcs, write_lists};
 use pit_units::OrMemory;
@@ -20,17 +20,17 @@ use precedence::FoundPreds;
 use refusals::refusal::Refusal;
 use std::alloc::{AllocError, Global};
 
-/// Begins the sink and writes what is left of the predecessors of an instance, which is used up.
+/// Begins the sink and writes the reduced lists of the instance, which is used up. Returns the counts of the instance.
 ///
 /// # Errors
 ///
-/// - `SinkFailed`: the sink refused a call.
+/// - `SinkFailed`: the sink failed.
 /// - `OutOfMemory`: memory was refused.
 ///
-/// The sink is as it was, or begun with a front of the text.
+/// The sink is unchanged, or begun with a prefix of the text.
 pub fn write_fewer<S: Sink>(
     alloc: Global,
-    instance: Instance<FoundPreds, FoundCoefs, FoundValues>,
+    instance: Instance<FoundPreds, LazyCoefs, LazyValues>,
     sink: &mut S,
 ) -> Result<ThinCounts, Refusal>
     requires { IsValid instance }
@@ -47,7 +47,7 @@ pub fn write_fewer<S: Sink>(
     Ok(ThinCounts { rows, left, whole })
 }
 
-// How many predecessors all blocks have: row by row of the cones, or list by list where that is faster.
+// Returns the number of predecessors of all blocks. Counts by the rows of the cones, or by the lists if that is faster.
 fn count_all(alloc: Global, preds: &FoundPreds) -> Result<u128, AllocError>
     requires { length preds.now ≤ MAX_BLOCKS }
     ensures { IfOk result (λ arcs. arcs ≡ sum_by length preds.now) }
@@ -58,8 +58,8 @@ fn count_all(alloc: Global, preds: &FoundPreds) -> Result<u128, AllocError>
     Ok(u128::from(preds.arcs(alloc)?))
 }
 
-// How many blocks an instance has, and their predecessors.
-fn parts_of(instance: Instance<FoundPreds, FoundCoefs, FoundValues>) -> (usize, FoundPreds)
+// Returns the number of an instance's blocks, and their predecessors.
+fn parts_of(instance: Instance<FoundPreds, LazyCoefs, LazyValues>) -> (usize, FoundPreds)
     ensures rows { result.0 ≡ length instance.blocks }
     ensures preds { result.1 ≡ instance.preds }
 {
@@ -67,7 +67,7 @@ fn parts_of(instance: Instance<FoundPreds, FoundCoefs, FoundValues>) -> (usize, 
     (rows, instance.preds)
 }
 
-// What came of writing, as the answer of a run.
+// Returns the result of writing as the result of a run.
 fn in_sink(written: Result<u128, WriteFault>) -> Result<u128, Refusal>
     ensures { result ≡ in_sink written }
 {

@@ -15,8 +15,8 @@ use Rattle.rows.specs.Valued.{row_by}
 use Rattle.valuers.specs.Valuing.{items_by}
 
 module _ (first later : List Taken) (m : Taken) (h : later ≡ first ++ drop (length first) later) where
-  pub behind_more : drop (length first) (later ++ m ∷ []) ≡ drop (length first) later ++ m ∷ []
-  behind_more =
+  pub after_more : drop (length first) (later ++ m ∷ []) ≡ drop (length first) later ++ m ∷ []
+  after_more =
       drop-append-le
       (length first)
       later
@@ -27,7 +27,7 @@ module _ (first later : List Taken) (m : Taken) (h : later ≡ first ++ drop (le
   took_more =
       ap (λ w. w ++ m ∷ []) h
       ∙ append_assoc first (drop (length first) later) (m ∷ [])
-      ∙ ap (λ w. first ++ w) (sym behind_more)
+      ∙ ap (λ w. first ++ w) (sym after_more)
 
 pub items_of_both : (formulas : List Formula) (xs ys : List Taken)
     → items_by formulas (xs ++ ys) ≡ items_by formulas xs ++ items_by formulas ys
@@ -38,21 +38,21 @@ items_of_both formulas (End file rows ∷ xs) ys = ap (λ w. item.End file rows 
 items_of_both formulas (Stop ∷ xs) ys = items_of_both formulas xs ys
 items_of_both formulas (Quit ∷ xs) ys = items_of_both formulas xs ys
 
-pub front_more : (front xs ys : List Item) → front ≡ take (length front) xs → front ≡ take (length front) (xs ++ ys)
-front_more front xs ys h =
-    h ∙ sym (take-append-le (length front) xs ys (omega (arith, ap length h, length-take (length front) xs)))
+pub prefix_more : (prefix xs ys : List Item) → prefix ≡ take (length prefix) xs → prefix ≡ take (length prefix) (xs ++ ys)
+prefix_more prefix xs ys h =
+    h ∙ sym (take-append-le (length prefix) xs ys (omega (arith, ap length h, length-take (length prefix) xs)))
 
 -- what was handed on still is a front, where one more message was taken
 module _ (formulas : List Formula) (first later : List Taken) (m : Taken) (h : later ≡ first ++ drop (length first) later) where
   pub items_more : items_by formulas (drop (length first) (later ++ m ∷ []))
       ≡ items_by formulas (drop (length first) later) ++ items_by formulas (m ∷ [])
   items_more =
-      ap (items_by formulas) (behind_more first later m h) ∙ items_of_both formulas (drop (length first) later) (m ∷ [])
+      ap (items_by formulas) (after_more first later m h) ∙ items_of_both formulas (drop (length first) later) (m ∷ [])
 
-  pub front_stays : (front : List Item) → front ≡ take (length front) (items_by formulas (drop (length first) later))
-      → front ≡ take (length front) (items_by formulas (drop (length first) (later ++ m ∷ [])))
-  front_stays front is =
-      rw items_more (front_more front (items_by formulas (drop (length first) later)) (items_by formulas (m ∷ [])) is)
+  pub prefix_stays : (prefix : List Item) → prefix ≡ take (length prefix) (items_by formulas (drop (length first) later))
+      → prefix ≡ take (length prefix) (items_by formulas (drop (length first) (later ++ m ∷ [])))
+  prefix_stays prefix is =
+      rw items_more (prefix_more prefix (items_by formulas (drop (length first) later)) (items_by formulas (m ∷ [])) is)
 
 -- an item was appended or refused: the items are all or still a front of all
 module _ {E : Type 0} (old new more all : List Item) (is : all ≡ old ++ more) where
@@ -60,9 +60,9 @@ module _ {E : Type 0} (old new more all : List Item) (is : all ≡ old ++ more) 
   all_where_pushed (Ok done) pushed fine = pushed ∙ sym is
   all_where_pushed (Err fault) pushed fine = absurd (true≢false fine)
 
-  pub front_where_pushed : (r : Result (Unit {0}) E) → OnOk r (new ≡ old ++ more) → OnErr r (new ≡ old) → new ≡ take (length new) all
-  front_where_pushed (Ok done) pushed kept = rw (pushed ∙ sym is) (sym (take-length all))
-  front_where_pushed (Err fault) pushed kept = rw (kept, is) (sym (take-append_seam old more))
+  pub prefix_where_pushed : (r : Result (Unit {0}) E) → OnOk r (new ≡ old ++ more) → OnErr r (new ≡ old) → new ≡ take (length new) all
+  prefix_where_pushed (Ok done) pushed kept = rw (pushed ∙ sym is) (sym (take-length all))
+  prefix_where_pushed (Err fault) pushed kept = rw (kept, is) (sym (take-append_seam old more))
 
 -- what holds of the items before and of what was appended holds of all
 pub all_stay : {E : Type 0} (P : Item → Type 0) (old new more : List Item) (r : Result (Unit {0}) E) → OnOk r (new ≡ old ++ more)

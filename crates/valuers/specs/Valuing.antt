@@ -44,8 +44,8 @@ items_by formulas (Stop ∷ ms) = items_by formulas ms
 items_by formulas (Quit ∷ ms) = items_by formulas ms
 
 -- a prefix of a list
-abbrev pub IsFrontOf : {A : Type 0} → List A → List A → Type 0
-IsFrontOf all items = items ≡ take (length items) all
+abbrev pub IsPrefixOf : {A : Type 0} → List A → List A → Type 0
+IsPrefixOf all items = items ≡ take (length items) all
 
 -- a take end took more messages, and nothing else changed
 abbrev pub TookMore : TakeEndView → TakeEndView → Type 0

@@ -4,7 +4,7 @@ ghost use Rattle.std.specs.Prelude.{◌≡◌, ◌≤◌, ◌++◌, true, [], �
 ghost use Rattle.lane.specs.MessageKinds.{is_done};
 ghost use Rattle.plan_parts.specs.Destinations.{formulas_of};
 ghost use Rattle.rows.specs.ItemsView.{IsFull, IsFullFor};
-ghost use Rattle.valuers.specs.Valuing.{AreOneToEight, IsFrontOf, TookMore, WereAsked, WerePassed, items_by, items_since};
+ghost use Rattle.valuers.specs.Valuing.{AreOneToEight, IsPrefixOf, TookMore, WereAsked, WerePassed, items_by, items_since};
 ghost use Rattle.plan_parts.specs.declared.ranges.TheConstants.{MAX_DESTINATIONS};
 
 use crate::gate::Gate;
@@ -45,7 +45,7 @@ pub fn value_all<R: Wait, G: Gate>(
     ensures taker { TookMore take_end result.taker }
     ensures done { is_done result.taker.took ≡ true }
     ensures items { IsFalse result.memory → result.items.items ≡ items_since (formulas_of destinations.now) take_end result.taker }
-    ensures front { IsFrontOf (items_since (formulas_of destinations.now) take_end result.taker) result.items.items }
+    ensures prefix { IsPrefixOf (items_since (formulas_of destinations.now) take_end result.taker) result.items.items }
     ensures full { IsTrue result.memory → IsFull result.items }
     ensures passed { WerePassed (G.passed_row gate.now valuer) result.items.items }
     ensures asked { WereAsked ⟦<Valuer as Fn(Block) -> i128>⟧.post destinations.now
@@ -75,7 +75,7 @@ pub fn value_packed<R: Wait, G: Gate>(
     ensures taker { TookMore take_end result.taker }
     ensures done { is_done result.taker.took ≡ true }
     ensures items { IsFalse result.memory → result.items.items ≡ items_since (formulas_of destinations.now) take_end result.taker }
-    ensures front { IsFrontOf (items_since (formulas_of destinations.now) take_end result.taker) result.items.items }
+    ensures prefix { IsPrefixOf (items_since (formulas_of destinations.now) take_end result.taker) result.items.items }
     ensures full { IsTrue result.memory → IsFullFor (length destinations.now) result.items }
     ensures passed { WerePassed (G.passed_row gate.now valuer) result.items.items }
     ensures asked { WereAsked ⟦<Valuer as Fn(Block) -> i128>⟧.post destinations.now
@@ -105,7 +105,7 @@ fn take_all<R: Wait, G: Gate, K: Keeps>(
     ensures taker { TookMore take_end result.0 }
     ensures done { is_done result.0.took ≡ true }
     ensures items { IsFalse result.2 → K.held result.1 ≡ items_since (formulas_of destinations.now) take_end result.0 }
-    ensures front { IsFrontOf (items_since (formulas_of destinations.now) take_end result.0) (K.held result.1) }
+    ensures prefix { IsPrefixOf (items_since (formulas_of destinations.now) take_end result.0) (K.held result.1) }
     ensures width { K.is_for result.1 (length destinations.now) }
     ensures full { IsTrue result.2 → K.is_full result.1 (length destinations.now) }
     ensures passed { WerePassed (G.passed_row gate.now valuer) (K.held result.1) }

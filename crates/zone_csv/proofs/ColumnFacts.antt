@@ -1,4 +1,4 @@
--- A header's columns are those that it names.
+-- The columns of a header are the columns that it names.
 use Rattle.std.proofs.Common.{◌≡◌, ℕ, zero, suc, ◌+◌, ◌<◌, Bool, true, false, List, [], ◌∷◌, length, arith, refl, sym, ◌∙◌, ap, subst, Ok, Err}
 use Rattle.std.specs.Prelude.{Result, if◌then◌else◌}
 use Rattle.records.specs.Cells.{trimmed, is_word}
@@ -21,7 +21,7 @@ module _ (name : List ℕ) (no_name : is_word [] name ≡ false) where
   abbrev One : List (List ℕ) → ℕ → Type 0
   One cells q = Is cells q × ((r : ℕ) → Is cells r → r ≡ q)
 
-  -- what the places that are found tell: no cell is the name, or one alone, or two are
+  -- what the found places show: no cell is the name, or exactly one, or two are
   abbrev Found : List (List ℕ) → ℕ → List ℕ → Type 0
   Found cells n [] = (q : ℕ) → Is cells q → ⊥
   Found cells n (p ∷ []) = (q : ℕ) × (p ≡ n + q) × One cells q
@@ -35,20 +35,20 @@ module _ (name : List ℕ) (no_name : is_word [] name ≡ false) where
       first none zero h = refl
       first none (suc r) h = absurd (none r h)
 
-      behind : is_word (trimmed cell) name ≡ false → (q : ℕ) → ((r : ℕ) → Is cells r → r ≡ q) → (r : ℕ) → Is (cell ∷ cells) r → r ≡ suc q
-      behind is q only zero h = absurd (cc (is, h))
-      behind is q only (suc r) h = ap suc (only r h)
+      following : is_word (trimmed cell) name ≡ false → (q : ℕ) → ((r : ℕ) → Is cells r → r ≡ q) → (r : ℕ) → Is (cell ∷ cells) r → r ≡ suc q
+      following is q only zero h = absurd (cc (is, h))
+      following is q only (suc r) h = ap suc (only r h)
 
-      none_behind : is_word (trimmed cell) name ≡ false → ((q : ℕ) → Is cells q → ⊥) → (r : ℕ) → Is (cell ∷ cells) r → ⊥
-      none_behind is none zero h = absurd (cc (is, h))
-      none_behind is none (suc r) h = none r h
+      none_following : is_word (trimmed cell) name ≡ false → ((q : ℕ) → Is cells q → ⊥) → (r : ℕ) → Is (cell ∷ cells) r → ⊥
+      none_following is none zero h = absurd (cc (is, h))
+      none_following is none (suc r) h = none r h
 
       by : (t : Bool) → is_word (trimmed cell) name ≡ t → (ps : List ℕ) → Found cells (n + 1) ps → Found (cell ∷ cells) n (if t then n ∷ ps else ps)
       by true is [] none = (0, omega arith, (is, first none))
       by true is (p ∷ []) one = (0, suc one.0, is, one.2.0, omega arith)
       by true is (p ∷ second ∷ more) two = (0, suc two.0, is, two.2, omega arith)
-      by false is [] none = none_behind is none
-      by false is (p ∷ []) one = (suc one.0, omega (arith, one.1), (one.2.0, behind is one.0 one.2.1))
+      by false is [] none = none_following is none
+      by false is (p ∷ []) one = (suc one.0, omega (arith, one.1), (one.2.0, following is one.0 one.2.1))
       by false is (p ∷ second ∷ more) two = (suc two.0, suc two.1, two.2, two.3, omega (arith, two.4))
 
   pub place_named : (header : List (List ℕ)) (p : ℕ) → places_of name header 0 ≡ p ∷ [] → NamesColumn header name p
@@ -71,13 +71,13 @@ module _ (name : List ℕ) (no_name : is_word [] name ≡ false) where
           let other : two.1 ≡ p = h.1 two.1 two.3 in
           absurd (omega (arith, first, other, two.4))
 
--- a column that stands at one place stands at no other
+-- a column with one place has no other
 one_stands : (column : Column) (places : List ℕ) (place : ℕ) → one_place column places ≡ Ok place → places ≡ place ∷ []
 one_stands column [] place e = absurd cc
 one_stands column (p ∷ []) place e = ap (λ q. q ∷ []) (same p place e)
 one_stands column (p ∷ second ∷ more) place e = absurd cc
 
--- no column is named by an empty cell
+-- an empty cell names no column
 no_name : (column : Column) → is_word [] (column_name column) ≡ false
 no_name X = refl
 no_name other = refl
@@ -86,10 +86,10 @@ module _ (header : List (List ℕ)) where
   abbrev IsNamed : Column → ℕ → Type 0
   IsNamed column place = NamesColumn header (column_name column) place
 
-  -- a column stands at one place, and at no other, exactly where it is named there
+  -- a column is at one place, and at no other, if and only if it is named there
   one_named : (column : Column) → Exactly (one_place column (places_in header column)) (IsNamed column)
   one_named column = record {
-    told = λ place e. place_named (column_name column) (no_name column) header place (one_stands column (places_in header column) place e);
+    reported = λ place e. place_named (column_name column) (no_name column) header place (one_stands column (places_in header column) place e);
     back = λ place named. ap (one_place column) (named_place (column_name column) (no_name column) header place named);
   }
 
@@ -100,7 +100,7 @@ module _ (header : List (List ℕ)) where
       (λ places named. record { width = refl; places = named })
       (λ columns named. (columns.places, named.places, λ i. record { width = sym named.width i; places = columns.places }))
 
--- its fault is of the first column that it does not name
+-- the fault is of the first column that it does not name
 module _ (header : List (List ℕ)) where
   abbrev Lacks : Column → RowFaultKind → Type 0
   Lacks column kind = LacksColumn header (column_name column) kind
@@ -113,12 +113,12 @@ module _ (header : List (List ℕ)) where
       Fault = Of 1 (λ f. (f.column ≡ column) × Lacks column f.kind)
 
       by : (ps : List ℕ) → Found (column_name column) (no_name column) header 0 ps → Refuses (one_place column ps) Fault
-      by ps stands = record { told = told ps stands; back = λ f h. back ps stands f.kind h.1.1 ∙ is f h.0 h.1.0 }
+      by ps stands = record { reported = reported ps stands; back = λ f h. back ps stands f.kind h.1.1 ∙ is f h.0 h.1.0 }
         where
-          told : (ps : List ℕ) → Found (column_name column) (no_name column) header 0 ps → (f : RowFault) → one_place column ps ≡ Err f → Fault f
-          told [] none f e = subst Fault (fault_is (a_fault 1 column MissingColumn) f e) (refl, (refl, none))
-          told (p ∷ []) one f e = absurd cc
-          told (p ∷ second ∷ more) two f e = subst Fault (fault_is (a_fault 1 column TwiceColumn) f e) (refl, (refl, two))
+          reported : (ps : List ℕ) → Found (column_name column) (no_name column) header 0 ps → (f : RowFault) → one_place column ps ≡ Err f → Fault f
+          reported [] none f e = subst Fault (fault_is (a_fault 1 column MissingColumn) f e) (refl, (refl, none))
+          reported (p ∷ []) one f e = absurd cc
+          reported (p ∷ second ∷ more) two f e = subst Fault (fault_is (a_fault 1 column TwiceColumn) f e) (refl, (refl, two))
 
           back : (ps : List ℕ) → Found (column_name column) (no_name column) header 0 ps → (k : RowFaultKind) → Lacks column k
               → one_place column ps ≡ Err (a_fault 1 column k)

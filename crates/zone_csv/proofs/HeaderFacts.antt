@@ -8,19 +8,19 @@ use Rattle.zone_csv.specs.Header.{each_place, one_place, places_in}
 use Rattle.zone_csv.specs.declared.row_fault.Column.{Column}
 use Rattle.zone_csv.specs.declared.row_fault.RowFault.{RowFault}
 
--- one place more
-pub each_more : (header : List (List ℕ)) (front : List ℕ) (column : Column) (columns : List Column) (place : ℕ)
+-- another place
+pub each_more : (header : List (List ℕ)) (prefix : List ℕ) (column : Column) (columns : List Column) (place : ℕ)
     → one_place column (places_in header column) ≡ Ok place
-    → (each_place header (column ∷ columns) >>= λ places. Ok (front ++ places))
-    ≡ (each_place header columns >>= λ places. Ok ((front ++ place ∷ []) ++ places))
-each_more header front column columns place is = rw is (by (each_place header columns))
+    → (each_place header (column ∷ columns) >>= λ places. Ok (prefix ++ places))
+    ≡ (each_place header columns >>= λ places. Ok ((prefix ++ place ∷ []) ++ places))
+each_more header prefix column columns place is = rw is (by (each_place header columns))
   where
     by : (r : Result (List ℕ) RowFault)
-        → ((r >>= λ places. Ok (place ∷ places)) >>= λ places. Ok (front ++ places)) ≡ (r >>= λ places. Ok ((front ++ place ∷ []) ++ places))
-    by (Ok places) = ap Ok (sym (append_assoc front (place ∷ []) places))
+        → ((r >>= λ places. Ok (place ∷ places)) >>= λ places. Ok (prefix ++ places)) ≡ (r >>= λ places. Ok ((prefix ++ place ∷ []) ++ places))
+    by (Ok places) = ap Ok (sym (append_assoc prefix (place ∷ []) places))
     by (Err fault) = refl
 
--- the place of the column at a place among all is stored, and those ahead decide as before
+-- the column's place is stored, and the remaining columns decide as before
 pub each_step : (header : List (List ℕ)) (places : List ℕ) (k : ℕ) (column : Column) (place : ℕ) → k < length places
     → length places ≡ length all_columns → column ≡ get_or all_columns k column → one_place column (places_in header column) ≡ Ok place
     → each_place header all_columns ≡ (each_place header (drop k all_columns) >>= λ ahead. Ok (take k places ++ ahead))
@@ -31,4 +31,4 @@ each_step header places k column place within five at is before =
     ∙ ap (λ left. each_place header left >>= λ ahead. Ok (take k places ++ ahead))
     (drop_more all_columns k column (omega (arith, within, five)) ∙ ap (λ c. c ∷ drop (k + 1) all_columns) (sym at))
     ∙ each_more header (take k places) column (drop (k + 1) all_columns) place is
-    ∙ ap (λ front. each_place header (drop (k + 1) all_columns) >>= λ ahead. Ok (front ++ ahead)) (sym (take_more_set places k place within))
+    ∙ ap (λ prefix. each_place header (drop (k + 1) all_columns) >>= λ ahead. Ok (prefix ++ ahead)) (sym (take_more_set places k place within))

@@ -1,4 +1,4 @@
--- A zone file has the blocks and the fault that its records state, and no others; its blocks are few, and of its zone.
+-- A zone file has exactly the blocks and the fault that its records state; its blocks are within the maximum, and of its zone.
 use Rattle.std.proofs.Common.{◌≡◌, ℕ, ◌+◌, ◌<◌, ◌≤◌, List, [], ◌∷◌, length, arith, refl, sym, ◌∙◌, ap, subst, inl, inr, Ok, Err, Some, None, min}
 use Rattle.std.specs.Prelude.{Result, Option, All, MatchOption, ◌⊎◌, ◌↔◌, drop}
 use Rattle.std.specs.Result.{ok_prefix}
@@ -9,22 +9,22 @@ use Rattle.plan_parts.specs.declared.block.Block.{Block}
 use Rattle.plan_parts.specs.declared.grid.Grid.{Grid}
 use Rattle.zone_csv.proofs.ColumnFacts.{header_named, header_refused}
 use Rattle.zone_csv.proofs.RefusedRowFacts.{row_refused}
-use Rattle.zone_csv.proofs.RowFacts.{fault_of_row, row_spelled, row_within, zone_of_row}
+use Rattle.zone_csv.proofs.RowFacts.{fault_of_row, row_encoded, row_within, zone_of_row}
 use Rattle.zone_csv.specs.Cell.{a_fault}
 use Rattle.zone_csv.specs.Header.{columns_of}
 use Rattle.zone_csv.specs.NamedColumns.{NamesColumns}
 use Rattle.zone_csv.specs.RefusedRow.{HasSizes}
 use Rattle.zone_csv.specs.Row.{row_of}
-use Rattle.zone_csv.specs.Zone.{below_header, blocks_of, fault_of, first_fault, records_say, rows_say}
+use Rattle.zone_csv.specs.Zone.{below_header, blocks_of, fault_of, first_fault, results_of_records, results_of_rows}
 use Rattle.zone_csv.specs.ZoneReaderView.{Ahead, ZoneReaderView}
-use Rattle.zone_csv.specs.ZoneKept.{AccountsForRecords, HasFewBlocks, HasOwnBlocks}
+use Rattle.zone_csv.specs.ZoneInvariant.{AccountsForRecords, HasFewBlocks, HasOwnBlocks}
 use Rattle.zone_csv.specs.ZoneStates.{RowsState, ZoneFails, ZoneStates, header_record}
 use Rattle.zone_csv.specs.declared.columns.Columns.{Columns}
 use Rattle.zone_csv.specs.declared.row_fault.Column.TheVariants as column
 use Rattle.zone_csv.specs.declared.row_fault.RowFault.{RowFault}
 use Rattle.zone_csv.specs.declared.row_fault.RowFaultKind.TheVariants.{MissingColumn}
 
--- rows that are read as these blocks, up to the end or this fault, and the records of a file
+-- rows that are read as these blocks, up to the end or this fault; and the records of a file
 abbrev RowsRead : Grid → ℕ → Columns → ℕ → List (List (List ℕ)) → List Block → Option RowFault → Type 0
 RowsRead grid zone columns number [] [] None = Unit {0}
 RowsRead grid zone columns number [] [] (Some fault) = ⊥
@@ -41,27 +41,27 @@ ZoneReads grid zone records blocks fault =
 abbrev HeaderRefused : List (List (List ℕ)) → List Block → RowFault → Type 0
 HeaderRefused records blocks fault = (blocks ≡ []) × (columns_of (header_record records) ≡ Err fault)
 
--- what records tell: where there is a fault, it may be the header's
-abbrev pub Tell : Grid → ℕ → List (List (List ℕ)) → List Block → Option RowFault → Type 0
-Tell grid zone records blocks None = ZoneReads grid zone records blocks None
-Tell grid zone records blocks (Some fault) = HeaderRefused records blocks fault ⊎ ZoneReads grid zone records blocks (Some fault)
+-- what records show: if there is a fault, it may be the header's
+abbrev pub ReportRecords : Grid → ℕ → List (List (List ℕ)) → List Block → Option RowFault → Type 0
+ReportRecords grid zone records blocks None = ZoneReads grid zone records blocks None
+ReportRecords grid zone records blocks (Some fault) = HeaderRefused records blocks fault ⊎ ZoneReads grid zone records blocks (Some fault)
 
--- of so many rows from this number on, each has a block, or the fault is of the row behind the blocks
+-- each of `rows` rows from this number on has a block, or the fault is of the row after the blocks
 abbrev Accounts : ℕ → ℕ → Option RowFault → ℕ → Type 0
 Accounts rows number None blocks = rows ≡ blocks
 Accounts rows number (Some fault) blocks = fault.row ≡ blocks + number
 
--- the same of a whole file, whose header is the first record
+-- the same for a whole file, whose first record is the header
 abbrev IsWhole : ℕ → Option RowFault → List Block → Type 0
 IsWhole records fault blocks =
     MatchOption fault (records ≡ length blocks + 1) (λ f. (f.row ≡ length blocks + 2) ⊎ ((f.row ≡ 1) × (blocks ≡ [])))
 
--- where there are no records, the header has no cells
+-- without records, the header has no cells
 empty_header : columns_of [] ≡ Err (a_fault 1 column.X MissingColumn)
 unfolding columns_of
 empty_header = refl
 
--- no cells name columns
+-- no cells name no columns
 no_columns : (columns : Columns) → NamesColumns [] columns → ⊥
 no_columns columns named = absurd (cc (empty_header, (header_named []).back columns named))
 
@@ -70,36 +70,36 @@ no_header fault e = let here = empty_header in cc
 
 module _ (grid : Grid) (zone : ℕ) where
   module _ (columns : Columns) where
-    -- rows state what they say
-    rows_told : (rows : List (List (List ℕ))) (number : ℕ)
-        → RowsRead grid zone columns number rows (ok_prefix (rows_say grid zone columns rows number))
-        (first_fault (rows_say grid zone columns rows number))
-    rows_told [] number = tt
-    rows_told (row ∷ rows) number =
-        by (row_of grid zone columns number row) refl (rows_told rows (number + 1))
+    -- rows are read as what they state
+    rows_reported : (rows : List (List (List ℕ))) (number : ℕ)
+        → RowsRead grid zone columns number rows (ok_prefix (results_of_rows grid zone columns rows number))
+        (first_fault (results_of_rows grid zone columns rows number))
+    rows_reported [] number = tt
+    rows_reported (row ∷ rows) number =
+        by (row_of grid zone columns number row) refl (rows_reported rows (number + 1))
       where
         by : (r : Result Block RowFault) → row_of grid zone columns number row ≡ r
             → RowsRead grid zone columns (number + 1) rows
-            (ok_prefix (rows_say grid zone columns rows (number + 1))) (first_fault (rows_say grid zone columns rows (number + 1)))
+            (ok_prefix (results_of_rows grid zone columns rows (number + 1))) (first_fault (results_of_rows grid zone columns rows (number + 1)))
             → RowsRead grid zone columns number
-            (row ∷ rows) (ok_prefix (r ∷ rows_say grid zone columns rows (number + 1))) (first_fault (r
-            ∷ rows_say grid zone columns rows (number + 1)))
+            (row ∷ rows) (ok_prefix (r ∷ results_of_rows grid zone columns rows (number + 1))) (first_fault (r
+            ∷ results_of_rows grid zone columns rows (number + 1)))
         by (Ok b) states rest = (states, rest)
         by (Err fault) fails rest = fails
 
-    -- and say what they state
-    told_rows : (rows : List (List (List ℕ))) (number : ℕ) (blocks : List Block) (fault : Option RowFault)
+    -- and state what they are read as
+    reported_rows : (rows : List (List (List ℕ))) (number : ℕ) (blocks : List Block) (fault : Option RowFault)
         → RowsRead grid zone columns number rows blocks fault
-        → (first_fault (rows_say grid zone columns rows number) ≡ fault) × (ok_prefix (rows_say grid zone columns rows number) ≡ blocks)
-    told_rows [] number [] None h = (refl, refl)
-    told_rows (row ∷ rows) number [] (Some fault) fails =
+        → (first_fault (results_of_rows grid zone columns rows number) ≡ fault) × (ok_prefix (results_of_rows grid zone columns rows number) ≡ blocks)
+    reported_rows [] number [] None h = (refl, refl)
+    reported_rows (row ∷ rows) number [] (Some fault) fails =
         (rw fails refl, rw fails refl)
-    told_rows (row ∷ rows) number (b ∷ blocks) fault (states, rest) =
-        let more = told_rows rows (number + 1) blocks fault rest in
+    reported_rows (row ∷ rows) number (b ∷ blocks) fault (states, rest) =
+        let more = reported_rows rows (number + 1) blocks fault rest in
         (rw states more.0, rw states (ap (λ bs. b ∷ bs) more.1))
-    told_rows _ number _ _ h = absurd h
+    reported_rows _ number _ _ h = absurd h
 
-    -- rows that state blocks are few, the blocks are of the zone, and each row has one, up to that of the fault
+    -- rows that state blocks are within the maximum, the blocks are of the zone, and each row has one, up to the row with the fault
     rows_kept : (rows : List (List (List ℕ))) (number : ℕ) (blocks : List Block) (fault : Option RowFault) → number ≤ 1000002
         → RowsRead grid zone columns number rows blocks fault
         → (length blocks + number ≤ 1000002) × All (λ (b : Block). b.zone ≡ min zone 63) blocks
@@ -122,47 +122,47 @@ module _ (grid : Grid) (zone : ℕ) where
         accounts (Some fault) h = omega (arith, h)
     rows_kept _ number _ _ counted h = absurd h
 
-  -- records tell what they say
-  pub told : (records : List (List (List ℕ)))
-      → Tell grid zone records (ok_prefix (records_say grid zone records)) (first_fault (records_say grid zone records))
-  told [] = inl (refl, empty_header)
-  told (header ∷ rows) = by (columns_of header) refl
+  -- records show what they state
+  pub reported : (records : List (List (List ℕ)))
+      → ReportRecords grid zone records (ok_prefix (results_of_records grid zone records)) (first_fault (results_of_records grid zone records))
+  reported [] = inl (refl, empty_header)
+  reported (header ∷ rows) = by (columns_of header) refl
     where
       below : (columns : Columns) (blocks : List Block) (fault : Option RowFault) → NamesColumns header columns
           → RowsRead grid zone columns 2 rows blocks fault
-          → Tell grid zone (header ∷ rows) blocks fault
+          → ReportRecords grid zone (header ∷ rows) blocks fault
       below columns blocks None named states = (columns, named, states)
       below columns blocks (Some fault) named states = inr (columns, named, states)
 
       by : (r : Result Columns RowFault) → columns_of header ≡ r
-          → Tell grid zone (header ∷ rows) (ok_prefix (below_header grid zone r rows)) (first_fault (below_header grid zone r rows))
+          → ReportRecords grid zone (header ∷ rows) (ok_prefix (below_header grid zone r rows)) (first_fault (below_header grid zone r rows))
       by (Ok columns) e =
-          let named = (header_named header).told columns e in
-          below columns _ _ named (rows_told columns rows 2)
+          let named = (header_named header).reported columns e in
+          below columns _ _ named (rows_reported columns rows 2)
       by (Err fault) e = inl (refl, e)
 
-  -- and say what they tell
+  -- and state what they show
   stated_records : (records : List (List (List ℕ))) (blocks : List Block) (fault : Option RowFault)
       → ZoneReads grid zone records blocks fault
-      → (first_fault (records_say grid zone records) ≡ fault) × (ok_prefix (records_say grid zone records) ≡ blocks)
+      → (first_fault (results_of_records grid zone records) ≡ fault) × (ok_prefix (results_of_records grid zone records) ≡ blocks)
   stated_records [] blocks fault (columns, named, states) = absurd (no_columns columns named)
   stated_records (header ∷ rows) blocks fault (columns, named, states) =
       let above = (header_named header).back columns named in
-      let below = told_rows columns rows 2 blocks fault states in
+      let below = reported_rows columns rows 2 blocks fault states in
       (rw above below.0, rw above below.1)
 
-  pub tell_back : (records : List (List (List ℕ))) (blocks : List Block) (fault : Option RowFault) → Tell grid zone records blocks fault
-      → (first_fault (records_say grid zone records) ≡ fault) × (ok_prefix (records_say grid zone records) ≡ blocks)
-  tell_back records blocks None states = stated_records records blocks None states
-  tell_back records blocks (Some fault) (inr states) = stated_records records blocks (Some fault) states
-  tell_back [] blocks (Some fault) (inl (none, fails)) = (no_header fault fails, sym none)
-  tell_back (header ∷ rows) blocks (Some fault) (inl (none, fails)) =
+  pub report_back : (records : List (List (List ℕ))) (blocks : List Block) (fault : Option RowFault) → ReportRecords grid zone records blocks fault
+      → (first_fault (results_of_records grid zone records) ≡ fault) × (ok_prefix (results_of_records grid zone records) ≡ blocks)
+  report_back records blocks None states = stated_records records blocks None states
+  report_back records blocks (Some fault) (inr states) = stated_records records blocks (Some fault) states
+  report_back [] blocks (Some fault) (inl (none, fails)) = (no_header fault fails, sym none)
+  report_back (header ∷ rows) blocks (Some fault) (inl (none, fails)) =
       (rw fails refl, rw fails (sym none))
 
-  behind : (records : List (List (List ℕ))) (blocks : List Block) (fault : Option RowFault) → ZoneReads grid zone records blocks fault
+  following : (records : List (List (List ℕ))) (blocks : List Block) (fault : Option RowFault) → ZoneReads grid zone records blocks fault
       → (length blocks ≤ 1000000) × All (λ (b : Block). b.zone ≡ min zone 63) blocks × IsWhole (length records) fault blocks
-  behind [] blocks fault (columns, named, states) = absurd (no_columns columns named)
-  behind (header ∷ rows) blocks fault (columns, named, states) =
+  following [] blocks fault (columns, named, states) = absurd (no_columns columns named)
+  following (header ∷ rows) blocks fault (columns, named, states) =
       let all = rows_kept columns rows 2 blocks fault (omega arith) states in
       (omega (arith, all.0), all.1, whole fault all.2)
     where
@@ -170,23 +170,23 @@ module _ (grid : Grid) (zone : ℕ) where
       whole None h = omega (arith, h)
       whole (Some fault) h = inl h
 
-  kept : (records : List (List (List ℕ))) (blocks : List Block) (fault : Option RowFault) → Tell grid zone records blocks fault
+  kept : (records : List (List (List ℕ))) (blocks : List Block) (fault : Option RowFault) → ReportRecords grid zone records blocks fault
       → (length blocks ≤ 1000000) × All (λ (b : Block). b.zone ≡ min zone 63) blocks × IsWhole (length records) fault blocks
-  kept records blocks None states = behind records blocks None states
-  kept records blocks (Some fault) (inr states) = behind records blocks (Some fault) states
+  kept records blocks None states = following records blocks None states
+  kept records blocks (Some fault) (inr states) = following records blocks (Some fault) states
   kept records blocks (Some fault) (inl (none, fails)) =
       let few : length blocks ≤ 1000000 = omega (arith, ap length none) in (
         few,
         subst (All (λ (b : Block). b.zone ≡ min zone 63)) (sym none) (All-nil (λ (b : Block). b.zone ≡ min zone 63)),
-        inr (((header_refused (header_record records)).told fault fails).0, none),
+        inr (((header_refused (header_record records)).reported fault fails).0, none),
       )
 
-pub zone_told : (grid : Grid) (zone : ℕ) (text : List ℕ)
-    → Tell grid zone (records_of text) (blocks_of grid zone text) (fault_of grid zone text)
+pub zone_reported : (grid : Grid) (zone : ℕ) (text : List ℕ)
+    → ReportRecords grid zone (records_of text) (blocks_of grid zone text) (fault_of grid zone text)
 unfolding blocks_of fault_of
-zone_told grid zone text = told grid zone (records_of text)
+zone_reported grid zone text = reported grid zone (records_of text)
 
--- where the blocks of the grid have sizes, what is read is what is spelled
+-- if the grid's blocks have sizes, what is read is what is encoded
 module _ (grid : Grid) (zone : ℕ) (sizes : HasSizes grid) (small : zone < 64) where
   rows_stated : (columns : Columns) (number : ℕ) (rows : List (List (List ℕ))) (blocks : List Block) (fault : Option RowFault)
       → RowsRead grid zone columns number rows blocks fault ↔ RowsState grid zone columns number rows blocks fault
@@ -195,67 +195,67 @@ module _ (grid : Grid) (zone : ℕ) (sizes : HasSizes grid) (small : zone < 64) 
   rows_stated columns number [] (b ∷ blocks) fault = (λ h. h, λ h. h)
   rows_stated columns number (row ∷ rows) [] None = (λ h. h, λ h. h)
   rows_stated columns number (row ∷ rows) [] (Some fault) =
-      let all = row_refused grid zone columns number row sizes in (all.told fault, all.back fault)
+      let all = row_refused grid zone columns number row sizes in (all.reported fault, all.back fault)
   rows_stated columns number (row ∷ rows) (b ∷ blocks) fault =
-      let here = row_spelled grid zone columns number row sizes.0 sizes.1 sizes.2 small in
+      let here = row_encoded grid zone columns number row sizes.0 sizes.1 sizes.2 small in
       let more = rows_stated columns (number + 1) rows blocks fault in
-      (λ h. (here.told b h.0, more.0 h.1), λ h. (here.back b h.0, more.1 h.1))
+      (λ h. (here.reported b h.0, more.0 h.1), λ h. (here.back b h.0, more.1 h.1))
 
-  -- a zone file has these blocks and no fault, or these and this fault, exactly where its records spell and fail so
-  zone_told_by : (text : List ℕ) (blocks : List Block) (fault : Option RowFault)
-      → ((fault_of grid zone text ≡ fault) × (blocks_of grid zone text ≡ blocks)) ↔ Tell grid zone (records_of text) blocks fault
+  -- a zone file has these blocks and no fault, or these and this fault, if and only if its records encode them and fail like this
+  zone_reported_by : (text : List ℕ) (blocks : List Block) (fault : Option RowFault)
+      → ((fault_of grid zone text ≡ fault) × (blocks_of grid zone text ≡ blocks)) ↔ ReportRecords grid zone (records_of text) blocks fault
   unfolding blocks_of fault_of
-  zone_told_by text blocks fault = (to, tell_back grid zone (records_of text) blocks fault)
+  zone_reported_by text blocks fault = (to, report_back grid zone (records_of text) blocks fault)
     where
-      to : (fault_of grid zone text ≡ fault) × (blocks_of grid zone text ≡ blocks) → Tell grid zone (records_of text) blocks fault
+      to : (fault_of grid zone text ≡ fault) × (blocks_of grid zone text ≡ blocks) → ReportRecords grid zone (records_of text) blocks fault
       to h =
-          subst (λ bs. Tell grid zone (records_of text) bs fault) h.1
-          (subst (Tell grid zone (records_of text) (blocks_of grid zone text)) h.0 (zone_told grid zone text))
+          subst (λ bs. ReportRecords grid zone (records_of text) bs fault) h.1
+          (subst (ReportRecords grid zone (records_of text) (blocks_of grid zone text)) h.0 (zone_reported grid zone text))
 
   pub zone_states : (text : List ℕ) (blocks : List Block)
       → ((fault_of grid zone text ≡ None) × (blocks_of grid zone text ≡ blocks)) ↔ ZoneStates grid zone (records_of text) blocks None
   zone_states text blocks =
-      let tells = zone_told_by text blocks None in (
-        λ h. let t = tells.0 h in (t.0, t.1, (rows_stated t.0 2 (drop 1 (records_of text)) blocks None).0 t.2),
-        λ h. tells.1 (h.0, h.1, (rows_stated h.0 2 (drop 1 (records_of text)) blocks None).1 h.2),
+      let reports = zone_reported_by text blocks None in (
+        λ h. let t = reports.0 h in (t.0, t.1, (rows_stated t.0 2 (drop 1 (records_of text)) blocks None).0 t.2),
+        λ h. reports.1 (h.0, h.1, (rows_stated h.0 2 (drop 1 (records_of text)) blocks None).1 h.2),
       )
 
   pub zone_fails : (text : List ℕ) (blocks : List Block) (fault : RowFault)
       → ((fault_of grid zone text ≡ Some fault) × (blocks_of grid zone text ≡ blocks)) ↔ ZoneFails grid zone (records_of text) blocks fault
-  zone_fails text blocks fault = (λ h. to ((zone_told_by text blocks (Some fault)).0 h), λ h. (zone_told_by text blocks (Some fault)).1 (from h))
+  zone_fails text blocks fault = (λ h. to ((zone_reported_by text blocks (Some fault)).0 h), λ h. (zone_reported_by text blocks (Some fault)).1 (from h))
     where
       header : List (List ℕ)
       header = header_record (records_of text)
 
-      to : Tell grid zone (records_of text) blocks (Some fault) → ZoneFails grid zone (records_of text) blocks fault
-      to (inl (none, fails)) = let h = (header_refused header).told fault fails in inl (none, h.0, h.1)
+      to : ReportRecords grid zone (records_of text) blocks (Some fault) → ZoneFails grid zone (records_of text) blocks fault
+      to (inl (none, fails)) = let h = (header_refused header).reported fault fails in inl (none, h.0, h.1)
       to (inr (columns, named, rows)) = inr (columns, named, (rows_stated columns 2 (drop 1 (records_of text)) blocks (Some fault)).0 rows)
 
-      from : ZoneFails grid zone (records_of text) blocks fault → Tell grid zone (records_of text) blocks (Some fault)
+      from : ZoneFails grid zone (records_of text) blocks fault → ReportRecords grid zone (records_of text) blocks (Some fault)
       from (inl (none, row, first)) = inl (none, (header_refused header).back fault (row, first))
       from (inr (columns, named, rows)) = inr (columns, named, (rows_stated columns 2 (drop 1 (records_of text)) blocks (Some fault)).1 rows)
 
--- so a reader that has all of the file to say says just that
-pub reader_says : (grid : Grid) (zone : ℕ) (text : List ℕ) (view : ZoneReaderView)
+-- so a reader at the start of the file returns exactly that
+pub reader_returns : (grid : Grid) (zone : ℕ) (text : List ℕ) (view : ZoneReaderView)
     → view ≡ Ahead (blocks_of grid zone text) (fault_of grid zone text) → (blocks : List Block) (fault : Option RowFault)
     → (view ≡ Ahead blocks fault) ↔ ((fault_of grid zone text ≡ fault) × (blocks_of grid zone text ≡ blocks))
-reader_says grid zone text view says blocks fault = (
+reader_returns grid zone text view says blocks fault = (
   λ is. let same : Ahead (blocks_of grid zone text) (fault_of grid zone text) ≡ Ahead blocks fault = sym says ∙ is in (cc, cc),
   λ back. says ∙ (λ i. Ahead (back.1 i) (back.0 i)),
 )
 
-pub zone_kept : (grid : Grid) (zone : ℕ) (text : List ℕ)
+pub zone_invariant : (grid : Grid) (zone : ℕ) (text : List ℕ)
     → (length (blocks_of grid zone text) ≤ 1000000) × All (λ (b : Block). b.zone ≡ min zone 63) (blocks_of grid zone text)
     × IsWhole (length (records_of text)) (fault_of grid zone text) (blocks_of grid zone text)
-zone_kept grid zone text = kept grid zone (records_of text) _ _ (zone_told grid zone text)
+zone_invariant grid zone text = kept grid zone (records_of text) _ _ (zone_reported grid zone text)
 
 pub few_blocks : (grid : Grid) (zone : ℕ) (text : List ℕ) → HasFewBlocks grid zone text
-few_blocks grid zone text = (zone_kept grid zone text).0
+few_blocks grid zone text = (zone_invariant grid zone text).0
 
 pub own_blocks : (grid : Grid) (zone : ℕ) (text : List ℕ) → zone < 64 → HasOwnBlocks grid zone text
 own_blocks grid zone text small =
     let same : min zone 63 ≡ zone = min-eq_left (omega (arith, small)) in
-    subst (λ n. All (λ (b : Block). b.zone ≡ n) (blocks_of grid zone text)) same (zone_kept grid zone text).1
+    subst (λ n. All (λ (b : Block). b.zone ≡ n) (blocks_of grid zone text)) same (zone_invariant grid zone text).1
 
 pub accounts_for_records : (grid : Grid) (zone : ℕ) (text : List ℕ) → AccountsForRecords grid zone text
-accounts_for_records grid zone text = (zone_kept grid zone text).2
+accounts_for_records grid zone text = (zone_invariant grid zone text).2

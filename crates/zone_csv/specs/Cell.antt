@@ -14,18 +14,18 @@ trimmed_at cells place = trimmed (slice_index_or cells place [])
 abbrev pub a_fault : ℕ → Column → RowFaultKind → RowFault
 a_fault row column kind = record { row = row; column = column; kind = kind }
 
--- the least and the greatest coordinate of the grid along an axis, in millionths of a metre: from the origin to less than 10,000 sizes
--- above it; the axis counts thousandths
-abbrev pub least : Axis → ℤ
-least axis = pos 1000 *ℤ axis.origin
+-- the smallest and the largest coordinate of the grid along an axis, in millionths of a metre: from the origin to below 10,000
+-- sizes above it. The axis itself is in thousandths of a metre
+abbrev pub smallest : Axis → ℤ
+smallest axis = pos 1000 *ℤ axis.origin
 
-abbrev pub greatest : Axis → ℤ
-greatest axis = (pos 1000 *ℤ (axis.origin +ℤ pos (GRID_CELLS * axis.size))) +ℤ negsuc 0
+abbrev pub largest : Axis → ℤ
+largest axis = (pos 1000 *ℤ (axis.origin +ℤ pos (GRID_CELLS * axis.size))) +ℤ negsuc 0
 
--- the index of the blocks at a coordinate: how many sizes it is above the origin
+-- the index of the blocks at a coordinate: the number of block sizes from the origin to it, rounded down
 abbrev pub index_at : Axis → ℤ → ℕ
-index_at axis coordinate = unsigned_abs (coordinate -ℤ least axis) / (1000 * axis.size)
+index_at axis coordinate = unsigned_abs (coordinate -ℤ smallest axis) / (1000 * axis.size)
 
--- a coordinate is whole sizes of a block above the origin
+-- the distance of a coordinate from the origin is a multiple of the block size
 abbrev pub is_on_step : Axis → ℤ → Bool
-is_on_step axis coordinate = unsigned_abs (coordinate -ℤ least axis) % (1000 * axis.size) == 0
+is_on_step axis coordinate = unsigned_abs (coordinate -ℤ smallest axis) % (1000 * axis.size) == 0

@@ -1,13 +1,13 @@
--- The columns of a zone file: their order, and their names.
+-- The columns of a zone file, in order, and their names.
 use Rattle.std.specs.Prelude.{ℕ, List, [], ◌∷◌, codes}
 use Rattle.zone_csv.specs.declared.row_fault.Column.{Column}
 use Rattle.zone_csv.specs.declared.row_fault.Column.TheVariants.{X, Y, Z, Tonnes, Grade, Whole}
 
--- all columns, in the order in which faults are looked for
+-- all columns, in the order in which faults are searched
 abbrev pub all_columns : List Column
 all_columns = X ∷ Y ∷ Z ∷ Tonnes ∷ Grade ∷ []
 
--- a column by its name in the header; the row as a whole has a word of its own
+-- a column's name in the header; the row as a whole has its own word
 abbrev pub column_name : Column → List ℕ
 column_name X = codes "x"
 column_name Y = codes "y"

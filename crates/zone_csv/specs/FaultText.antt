@@ -1,4 +1,4 @@
--- The words that show a fault of a zone file.
+-- The text of a zone file's fault.
 use Rattle.std.specs.Prelude.{ℕ, List, ◌++◌, codes, decimal}
 use Rattle.zone_csv.specs.Columns.{column_name}
 use Rattle.zone_csv.specs.declared.row_fault.RowFault.{RowFault}

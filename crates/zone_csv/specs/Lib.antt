@@ -1,13 +1,13 @@
 pub mod Cell
 pub mod Columns
+pub mod EncodedRow
 pub mod FaultText
 pub mod Header
 pub mod NamedColumns
 pub mod RefusedRow
 pub mod Row
-pub mod SpelledRow
 pub mod Zone
-pub mod ZoneKept
+pub mod ZoneInvariant
 pub mod ZoneReaderView
 pub mod ZoneStates
 pub mod inner

@@ -1,12 +1,12 @@
 //! What a cell of a row states.
 
 ghost use Rattle.std.specs.Prelude.{◌≡◌, ℕ, ◌*◌, ◌^◌, ◌<◌, ◌≤◌, ◌≤ℤ◌, ◌-ℤ◌, pos, unsigned_abs, Err, IfOk};
-ghost use Rattle.plan_parts.specs.PlanKept.{IsAxis};
+ghost use Rattle.plan_parts.specs.PlanInvariant.{IsAxis};
 ghost use Rattle.pit_units.specs.Decimal.{decimal_within};
 ghost use Rattle.records.specs.Cells.{trimmed};
-ghost use Rattle.zone_csv.specs.Cell.{a_fault, greatest, least};
-ghost use Rattle.zone_csv.specs.Row.{index_said, number_said, size_said};
-ghost use Rattle.zone_csv.specs.SpelledRow.{IsInGrid};
+ghost use Rattle.zone_csv.specs.Cell.{a_fault, largest, smallest};
+ghost use Rattle.zone_csv.specs.Row.{index_in_cell, number_in_cell, size_in_cell};
+ghost use Rattle.zone_csv.specs.EncodedRow.{IsInGrid};
 ghost use Rattle.zone_csv.specs.inner.RowAnswers.{in_row};
 ghost use Rattle.plan_parts.specs.declared.ranges.TheConstants.{GRID_CELLS};
 
@@ -23,17 +23,17 @@ pub(crate) fn a_fault(row: u32, column: Column, kind: RowFaultKind) -> RowFault
     RowFault { row, column, kind }
 }
 
-// What is wrong with a row, but for the row's number. In an answer these two bytes lie in front of the number or the block that
-// may stand in their place. A whole `RowFault` would lie over half of their first 8 bytes, and have these copied in halves.
+// The fault of a row without the row's number. In a result these two bytes come before the number or block that may take their
+// place. A whole `RowFault` would overlap half of the first 8 bytes, which would then be copied in halves.
 #[derive(Clone, Copy)]
 pub(crate) struct ColumnFault {
     pub column: Column,
     pub kind: RowFaultKind,
 }
 
-// The fault of a cell that states no decimal.
+// Returns the fault of a cell that states no allowed decimal.
 fn no_decimal(column: Column, fault: DecFault) -> ColumnFault
-    ensures { (row : ℕ) → number_said row column (Err fault)
+    ensures { (row : ℕ) → number_in_cell row column (Err fault)
         ≡ Err (a_fault row result.column result.kind) }
 {
     let kind = match fault {
@@ -44,10 +44,10 @@ fn no_decimal(column: Column, fault: DecFault) -> ColumnFault
     ColumnFault { column, kind }
 }
 
-// Reads the number in a field without the blanks at its ends: at most `decimals` decimals, from `low` to `high` millionths. Most fields
-// have the usual form and no blanks, and are read in one pass.
+// Reads the number in a field without the blanks at its ends: at most `decimals` decimals, from `low` to `high` millionths. Most
+// fields have the usual form and no blanks, and are read in one pass.
 #[inline(always)]
-#[tactic(auto, using(crate::proofs::RowFacts::usual_said))]
+#[tactic(auto, using(crate::proofs::RowFacts::usual_number))]
 fn number_of(
     column: Column,
     decimals: u8,
@@ -57,7 +57,7 @@ fn number_of(
 ) -> Result<i64, ColumnFault>
     requires { decimals ≤ 6 }
     ensures value { (row : ℕ) → in_row row result
-        ≡ number_said row column (decimal_within decimals low high (trimmed field.now)) }
+        ≡ number_in_cell row column (decimal_within decimals low high (trimmed field.now)) }
     ensures in_range { IfOk result (λ number. (low ≤ℤ number) × (number ≤ℤ high)) }
 {
     match usual_dec(field, decimals) {
@@ -77,7 +77,7 @@ fn any_number(
 ) -> Result<i64, ColumnFault>
     requires { decimals ≤ 6 }
     ensures value { (row : ℕ) → in_row row result
-        ≡ number_said row column (decimal_within decimals low high cell.now) }
+        ≡ number_in_cell row column (decimal_within decimals low high cell.now) }
     ensures in_range { IfOk result (λ number. (low ≤ℤ number) × (number ≤ℤ high)) }
 {
     let number = parse_within(cell, decimals, i128::from(low), i128::from(high)).map_err(
@@ -96,7 +96,7 @@ pub(crate) fn millionths_in(
 ) -> Result<u64, ColumnFault>
     requires { (decimals ≤ 6) × (most < 2 ^ 63) }
     ensures value { (row : ℕ) → in_row row result
-        ≡ size_said row column decimals most (trimmed field.now) }
+        ≡ size_in_cell row column decimals most (trimmed field.now) }
     ensures in_range { IfOk result (λ size. size ≤ most) }
 {
     Ok(number_of(column, decimals, 0, most as i64, field)? as u64)
@@ -107,10 +107,10 @@ pub(crate) fn millionths_in(
 pub(crate) fn index_of(column: Column, axis: Axis, field: &[u8]) -> Result<u16, ColumnFault>
     requires { IsAxis axis }
     ensures value { (row : ℕ) → in_row row result
-        ≡ index_said row column axis (trimmed field.now) }
+        ≡ index_in_cell row column axis (trimmed field.now) }
     ensures in_grid { IfOk result (λ index. index < GRID_CELLS) }
 {
-    let coordinate = number_of(column, 3, least(axis), greatest(axis), field)?;
+    let coordinate = number_of(column, 3, smallest(axis), largest(axis), field)?;
     let above = above_origin(axis, coordinate);
     let size = size(axis);
     if above % size != 0 {
@@ -120,15 +120,15 @@ pub(crate) fn index_of(column: Column, axis: Axis, field: &[u8]) -> Result<u16, 
     Ok((above / size) as u16)
 }
 
-// How far a coordinate stands above the origin, in millionths of a metre.
+// Returns the distance of a coordinate above the origin, in millionths of a metre.
 #[inline(always)]
 fn above_origin(axis: Axis, coordinate: i64) -> u64
     requires axis { IsAxis axis }
     requires in_grid { IsInGrid axis coordinate }
-    ensures value { result ≡ unsigned_abs (coordinate -ℤ least axis) }
+    ensures value { result ≡ unsigned_abs (coordinate -ℤ smallest axis) }
     ensures low { result < GRID_CELLS * (1000 * axis.size) }
 {
-    (coordinate - least(axis)) as u64
+    (coordinate - smallest(axis)) as u64
 }
 
 #[inline(always)]
@@ -139,17 +139,17 @@ fn size(axis: Axis) -> u64
 }
 
 #[inline(always)]
-fn least(axis: Axis) -> i64
+fn smallest(axis: Axis) -> i64
     requires { IsAxis axis }
-    ensures { result ≡ least axis }
+    ensures { result ≡ smallest axis }
 {
     1000 * axis.origin
 }
 
 #[inline(always)]
-fn greatest(axis: Axis) -> i64
+fn largest(axis: Axis) -> i64
     requires { IsAxis axis }
-    ensures { result ≡ greatest axis }
+    ensures { result ≡ largest axis }
 {
-    least(axis) + (u64::from(GRID_CELLS) * size(axis)) as i64 - 1
+    smallest(axis) + (u64::from(GRID_CELLS) * size(axis)) as i64 - 1
 }

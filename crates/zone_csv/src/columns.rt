@@ -1,4 +1,4 @@
-//! Where the header of a zone file puts its columns.
+//! The places of the columns in the header of a zone file.
 
 ghost use Rattle.std.specs.Prelude.{◌≡◌};
 ghost use Rattle.csv.specs.Records.{fields_of};
@@ -16,7 +16,7 @@ pub struct Columns {
     pub places: [usize; COLUMNS],
 }
 
-// The columns that a header names, or the first of them that it lacks or has twice.
+// Returns the columns that a header names, or the fault of the first column that is missing or appears twice.
 #[tactic(auto, unfolding(crate::specs::Header::columns_of))]
 pub(crate) fn columns_of(header: &ByteRecord) -> Result<Columns, RowFault>
     ensures { result ≡ columns_of (fields_of header.now) }
@@ -32,7 +32,7 @@ pub(crate) fn columns_of(header: &ByteRecord) -> Result<Columns, RowFault>
     })
 }
 
-// The place of a column, or the header's fault.
+// Returns the place of a column, or the header's fault.
 fn place_in(header: &ByteRecord, column: Column) -> Result<usize, RowFault>
     ensures { result ≡ one_place column (places_in (fields_of header.now) column) }
 {

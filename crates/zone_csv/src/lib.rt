@@ -1,4 +1,4 @@
-//! Zone files: the feeds that give their bytes, and the blocks that their rows say.
+//! Zone files: a reader of the blocks that their rows state.
 #![tactic(auto)]
 
 mod cell;

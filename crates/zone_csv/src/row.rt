@@ -1,8 +1,8 @@
-//! The block that a row says.
+//! The block that a row states.
 
 ghost use Rattle.std.specs.Prelude.{◌≡◌, ◌+◌, ◌<◌, ◌≤◌, OnOk};
 ghost use Rattle.csv.specs.Records.{fields_of};
-ghost use Rattle.plan_parts.specs.PlanKept.{IsGrid};
+ghost use Rattle.plan_parts.specs.PlanInvariant.{IsGrid};
 ghost use Rattle.zone_csv.specs.Row.{row_of};
 ghost use Rattle.zone_csv.specs.inner.RowAnswers.{in_row};
 ghost use Rattle.plan_parts.specs.declared.ranges.TheConstants.{MAX_ROWS, MAX_ZONES};
@@ -16,10 +16,10 @@ use plan_parts::grid::Grid;
 use plan_parts::ranges::{MAX_GRADE, MAX_KG, MAX_ROWS};
 use records::cells::field_at;
 
-// The number of the last record that may hold a block: the header is record 1, and a file has at most 1,000,000 blocks.
+// The number of the last record that may state a block: the header is record 1, and a file has at most 1,000,000 blocks.
 const LAST_ROW: u32 = MAX_ROWS + 1;
 
-// What the record of this number says, under a header with these columns.
+// Returns what the record with this number states, under a header with these columns.
 #[tactic(auto, unfolding(crate::specs::Row::row_of))]
 #[inline(always)]
 pub(crate) fn row_of(
@@ -57,7 +57,7 @@ pub(crate) fn row_of(
     })
 }
 
-// A fault of the row as a whole.
+// Returns a fault of the row as a whole.
 fn whole(kind: RowFaultKind) -> ColumnFault
     ensures { result ≡ record { column = Column.Whole; kind = kind } }
 {

@@ -22,7 +22,7 @@ pub enum Column {
 }
 
 impl Column {
-    /// All columns of a zone file, in the order in which faults are looked for.
+    /// Returns all columns of a zone file, in the order in which faults are searched.
     pub fn all() -> [Column; COLUMNS]
         ensures { result ≡ all_columns }
     {
@@ -35,7 +35,7 @@ impl Column {
         ]
     }
 
-    /// Its name in the header, or the word of the row as a whole.
+    /// Returns the column's name in the header, or the word for the row as a whole.
     pub fn name(self) -> &'static str
         ensures { result.now ≡ column_name self }
     {
@@ -61,11 +61,11 @@ impl fmt::Display for Column {
     }
 }
 
-/// What is wrong with a row. Of several faults of a row the first is meant: `TooManyRows`, then `Width`, then that of the first column
-/// that has one; and of those of a column the first one here.
+/// What is wrong with a row. If a row has several faults, the first is reported: `TooManyRows`, then `Width`, then the fault of the
+/// first column that has one. If a column has several, the first in this order is reported.
 #[derive(Clone, Copy, Debug, PartialEq, Eq)]
 pub enum RowFaultKind {
-    /// The header lacks the column, or the text has no record at all.
+    /// The column is missing from the header, or the text has no record at all.
     MissingColumn,
     /// The header has the column more than once.
     TwiceColumn,
@@ -73,13 +73,13 @@ pub enum RowFaultKind {
     Width,
     /// The cell is no decimal number.
     Number,
-    /// The number has a digit other than zero past the decimals that its column allows: 3, or 6 for a grade.
+    /// The number has a digit other than zero after the decimals that its column allows: 3, or 6 for a grade.
     TooFine,
     /// The number is out of its column's range.
     Range,
     /// The coordinate is no centroid of a block.
     OffGrid,
-    /// The file has more rows than are allowed.
+    /// The file has more rows than the maximum.
     TooManyRows,
 }
 
@@ -103,10 +103,11 @@ impl fmt::Display for RowFaultKind {
     }
 }
 
-/// The first fault of a zone file, and where it stands.
+/// The first fault of a zone file, with its record and column.
 #[derive(Clone, Copy, Debug, Error, PartialEq, Eq)]
 pub struct RowFault {
-    /// The number of the record, from 1, the header included. A line without a byte is no record; one of blanks is a record of one cell.
+    /// The number of the record, from 1, with the header included. A line without a byte is no record; a line of blanks is a record
+    /// with one cell.
     pub row: u32,
     pub column: Column,
     pub kind: RowFaultKind,

@@ -1,9 +1,9 @@
-//! The reader of a zone file.
+//! A reader of zone files.
 
 ghost use Rattle.std.specs.Prelude.{◌≡◌, ◌↔◌, ◌+◌, ◌<◌, ◌≤◌, List, length, None, Some, Err, IfOk, IfSome};
-ghost use Rattle.plan_parts.specs.PlanKept.{IsGrid};
-ghost use Rattle.zone_csv.specs.ZoneReaderView.{Ahead, Answers, all_ahead, blocks_left};
-ghost use Rattle.zone_csv.specs.ZoneKept.{HasFewBlocks, HasOwnBlocks};
+ghost use Rattle.plan_parts.specs.PlanInvariant.{IsGrid};
+ghost use Rattle.zone_csv.specs.ZoneReaderView.{Ahead, Answers, all_ahead, blocks_remaining};
+ghost use Rattle.zone_csv.specs.ZoneInvariant.{HasFewBlocks, HasOwnBlocks};
 ghost use Rattle.zone_csv.specs.ZoneStates.{ZoneFails, ZoneStates};
 ghost use Rattle.zone_csv.specs.declared.row_fault.RowFault.{RowFault as ARowFault};
 ghost use Rattle.plan_parts.specs.declared.block.Block.{Block as ABlock};
@@ -25,23 +25,23 @@ use std::alloc::Global;
 use std::io::Cursor;
 use std::marker::Model;
 
-// How far a zone file was read.
+// The progress of a reader.
 #[derive(Clone, Copy)]
 enum Stage {
-    // Not at all.
+    // Nothing was read.
     Header,
-    // Up to the record of this number.
+    // Everything before the record with this number was read.
     Body { columns: Columns, number: u32 },
-    // To its end.
+    // The file was read to its end.
     Ended,
-    // Up to this fault.
+    // The file was read up to this fault.
     Failed(OrMemory<RowFault>),
 }
 
 /// A reader of a zone file. It returns the blocks of the rows, in order, up to the file's first fault.
 ///
-/// Contracts see what it has still to say: the blocks before the first fault, and that fault, if there is one. Or they
-/// see that the fault or the end was told, or that memory was refused.
+/// Contracts see what it has yet to return: the blocks before the first fault, and that fault, if there is one. Or they see that
+/// the fault or the end was returned, or that memory was refused.
 #[derive(Drop)]
 pub struct ZoneReader {
     records: RecordReader<Cursor<Vec<u8>>>,
@@ -53,7 +53,7 @@ pub struct ZoneReader {
 
 impl Model for ZoneReader {
     ghost use Rattle.std.specs.Prelude.{◌<◌};
-    ghost use Rattle.plan_parts.specs.PlanKept.{IsGrid};
+    ghost use Rattle.plan_parts.specs.PlanInvariant.{IsGrid};
     ghost use Rattle.zone_csv.specs.ZoneReaderView.{ZoneReaderView};
     ghost use Rattle.zone_csv.specs.inner.ReaderStages.{reader_view, IsCounted};
     ghost use Rattle.plan_parts.specs.declared.ranges.TheConstants.{MAX_ZONES};
@@ -66,14 +66,15 @@ impl Model for ZoneReader {
 }
 
 impl ZoneReader {
-    /// A reader of the zone file `text`, of the zone of this number in the plan. It reads nothing and takes no memory yet.
+    /// Makes a reader of the zone file `text`, for the zone with this number in the plan. Reads nothing and allocates no memory
+    /// yet.
     pub fn new(alloc: Global, text: Vec<u8>, plan: &Plan, zone: u8) -> ZoneReader
         requires { zone < length plan.now.cones }
         ensures says { result ≡ all_ahead plan.now.grid zone text.items }
-        // The same by what the records state.
-        ensures spelled { (blocks : List ABlock) → (result ≡ Ahead blocks None)
+        // The same, by what the records state.
+        ensures encoded { (blocks : List ABlock) → (result ≡ Ahead blocks None)
             ↔ ZoneStates plan.now.grid zone (records_of text.items) blocks None }
-        ensures faulty { (blocks : List ABlock) (fault : ARowFault) → (result ≡ Ahead blocks (Some fault))
+        ensures invalid { (blocks : List ABlock) (fault : ARowFault) → (result ≡ Ahead blocks (Some fault))
             ↔ ZoneFails plan.now.grid zone (records_of text.items) blocks fault }
         ensures few { HasFewBlocks plan.now.grid zone text.items }
         ensures own { HasOwnBlocks plan.now.grid zone text.items }
@@ -87,18 +88,18 @@ impl ZoneReader {
         }
     }
 
-    /// The next block, or `None` at the end of the file, then and ever after. The first call reads the header too.
+    /// Returns the next block, or `None` at the end of the file and at every later call. The first call also reads the header.
     ///
     /// # Errors
     ///
-    /// Each is returned ever after.
+    /// Every later call returns the same error.
     ///
-    /// - `Fault`: the file's first fault, once the blocks before it were returned.
-    /// - `OutOfMemory`: memory was refused for a record. It never comes once the end or the fault was told.
+    /// - `Fault`: the file's first fault, after the blocks before it were returned.
+    /// - `OutOfMemory`: memory was refused for a record. It never occurs after the end or the fault was returned.
     pub fn next(&mut self) -> Result<Option<Block>, OrMemory<RowFault>>
         ensures answers { Answers self.old result self.new }
         ensures fewer { IfOk result
-            (λ found. IfSome found (λ _. blocks_left self.new + 1 ≡ blocks_left self.old)) }
+            (λ found. IfSome found (λ _. blocks_remaining self.new + 1 ≡ blocks_remaining self.old)) }
     {
         step(
             &mut self.stage,
@@ -110,7 +111,7 @@ impl ZoneReader {
     }
 }
 
-// One answer of a reader at a stage, which goes on to its next stage.
+// Returns the next result of a reader at a stage, and moves it to its next stage.
 #[inline(always)]
 fn step(
     stage: &mut Stage,
@@ -144,7 +145,7 @@ fn failed(stage: &mut Stage, fault: OrMemory<RowFault>) -> Result<Option<Block>,
     Err(fault)
 }
 
-// The answer for the row behind the header, which is read first.
+// Reads the header, and returns the result for the row after it.
 fn first_row(
     stage: &mut Stage,
     records: &mut RecordReader<Cursor<Vec<u8>>>,
@@ -171,7 +172,7 @@ fn first_row(
     }
 }
 
-// The answer for the next record, which has this number.
+// Returns the result for the next record, which has this number.
 #[inline(always)]
 fn next_row(
     stage: &mut Stage,

@@ -1,4 +1,4 @@
-"""What an instance of a batch is made by, and how: the text of BUILD."""
+"""The programs and options that make an instance of a batch: the text of BUILD."""
 from __future__ import annotations
 
 import os
@@ -19,9 +19,9 @@ from pit_tools.pits.compiled import SOURCE
 
 @dataclass(frozen=True)
 class Way:
-    """How the instances of a batch are made: the folder that names of its list are of; pitc
-    with its options, and pitc_thin where files without arcs that others imply are wanted; and
-    the seconds of a relaxation at most, None if there is to be none."""
+    """How the instances of a batch are made: the folder in which the list's names are; pitc with
+    its options; pitc_thin if files without implied arcs are wanted; and the time limit of a
+    relaxation in seconds, None for no relaxations."""
 
     folder: str
     pitc: str
@@ -31,18 +31,18 @@ class Way:
 
 
 def found_program(name: str, option: str) -> str:
-    """The path of a program. Raises UserError if there is none."""
+    """Returns the path of a program. Raises UserError if there is none."""
     found = shutil.which(name)
     if found is None:
         raise UserError(f"no program `{name}` is in the PATH: give {option}")
     return os.path.abspath(found)
 
 
-def build_told(way: Way) -> str:
-    """The versions and the sums of pitc and pitc_thin, the options, and what made the table:
-    the tool and its packages. Raises UserError if one of the programs does not work."""
+def build_text(way: Way) -> str:
+    """Returns the versions and the sums of pitc and pitc_thin, the options, and what made the
+    table: the tool and its packages. Raises UserError if one of the programs does not work."""
     packages = " ".join(f"{name} {metadata.version(name)}" for name in ("numpy", "scipy", "pandas"))
-    programs = _program_told(way.pitc, "pitc") + (_program_told(way.thin, "pitc_thin") if way.thin
+    programs = _program_text(way.pitc, "pitc") + (_program_text(way.thin, "pitc_thin") if way.thin
                                                   else "")
     relaxed = "none" if way.seconds is None else f"{way.seconds:g} s each"
     return (f"{programs}options: {' '.join(way.options) or 'none'}\nrelaxations: {relaxed}\n"
@@ -51,11 +51,11 @@ def build_told(way: Way) -> str:
             f"{packages}\n")
 
 
-#: BUILD's text, told once in a process.
-build_told_once = lru_cache(None)(build_told)
+#: BUILD's text, computed once in a process.
+build_text_once = lru_cache(None)(build_text)
 
 
-def _program_told(program: str, name: str) -> str:
+def _program_text(program: str, name: str) -> str:
     try:
         version = subprocess.run([program, "--version"], capture_output=True, text=True,
                                  errors="replace", check=False)
@@ -67,7 +67,7 @@ def _program_told(program: str, name: str) -> str:
 
 
 def sum_of_modules(folder: str = os.path.dirname(os.path.dirname(__file__))) -> str:
-    """One sum of all modules of the tool, those of its commands too, with their names."""
+    """Returns one sum of all modules of the tool, its commands included, with their names."""
     paths = [os.path.join(above, name) for above, _, names in os.walk(folder)
              for name in names if name.endswith((".py", ".cpp"))]
     found = sha256()

@@ -1,5 +1,5 @@
-"""What makes the instances of a batch: this process, several of this machine, or the workers of a
-Dask scheduler."""
+"""Engines that make the instances of a batch: this process, several processes of this machine, or
+the workers of a Dask scheduler."""
 from __future__ import annotations
 
 import multiprocessing
@@ -17,14 +17,14 @@ from typing import Any, Callable, Generator, Iterator, Sequence
 from pit_tools.batches.making import Failed
 from pit_tools.errors import UserError
 
-#: Seconds that a process has to take away what it was making.
+#: Seconds for a process to remove what it was making.
 PATIENCE = 5
 
-#: What is done with each entry: a function of a module, or a partial of one. It returns what is
-#: made, or Failed.
+#: The step for each entry: a function of a module, or a partial of one. It returns what is made, or
+#: Failed.
 Step = Callable[[Any], Any]
 
-#: Does a step with entries, and yields what it returns for each as soon as it does, in any order.
+#: Runs a step on entries, and yields each result as soon as there is one, in any order.
 Engine = Callable[[Step, Sequence[Any]], Generator[Any, None, None]]
 
 
@@ -34,8 +34,8 @@ def in_turn(step: Step, entries: Sequence[Any]) -> Generator[Any, None, None]:
 
 
 def by_processes(jobs: int) -> Engine:
-    """So many at a time, each in a process of its own. A program that uses this needs the usual
-    `if __name__ == "__main__":`, since each process loads it."""
+    """Runs the given number of steps at a time, each in its own process. A program that uses this
+    needs the usual `if __name__ == "__main__":`, since each process loads it."""
 
     def engine(step: Step, entries: Sequence[Any]) -> Generator[Any, None, None]:
         with _processes(min(jobs, max(1, len(entries)))) as executor:
@@ -46,9 +46,9 @@ def by_processes(jobs: int) -> Engine:
 
 @contextmanager
 def _processes(jobs: int) -> Iterator[Executor]:
-    """Processes that end with this one: they are told to where an exception leaves the block, and
-    see it where this one is killed. They are copies of a new interpreter: a copy of this one would
-    lack the threads that libraries have started, as HiGHS does, and could wait for them for ever.
+    """Processes that end with this one: they get a signal if an exception leaves the block, and
+    notice if this one is killed. They start from a new interpreter: a copy of this one would miss
+    the threads that libraries have started, as HiGHS does, and could wait for them for ever.
     """
     others = set(multiprocessing.active_children())
     context = multiprocessing.get_context("forkserver")
@@ -70,7 +70,7 @@ def _processes(jobs: int) -> Iterator[Executor]:
 
 
 def _end_with_parent() -> None:
-    """Leaves Ctrl-C to the first process, which tells the others by TERM."""
+    """Leaves Ctrl-C to the first process, which ends the others by TERM."""
     parent = multiprocessing.parent_process()
     signal.signal(signal.SIGINT, signal.SIG_IGN)
     signal.pthread_sigmask(signal.SIG_UNBLOCK, {signal.SIGINT})
@@ -85,32 +85,32 @@ def _end_with_parent() -> None:
 
 
 def _end(_number: int, _frame: object) -> None:
-    """Ends a process by an exception, so that what is under way is taken away. The executor
-    takes that for a fault of the instance, and continues to wait for the next one, perhaps for
-    a lock that another process had when it ended: so the system ends it a while later."""
+    """Ends a process by an exception, so that unfinished work is removed. The executor treats that
+    as an error of the instance, and continues to wait for the next one, perhaps for a lock that
+    another process had when it ended: so the system ends it a while later."""
     signal.signal(signal.SIGALRM, signal.SIG_DFL)
     signal.alarm(PATIENCE)
     sys.exit(143)
 
 
 def by_dask(address: str) -> Engine:
-    """By the workers of the scheduler at this address, which see the folder of the batch by the
-    same path, and have the same programs and packages. What a worker was making that ends is made
-    by another.
+    """Runs steps on the workers of the scheduler at this address, which see the folder of the batch
+    by the same path, and have the same programs and packages. If a worker ends, another makes its
+    instance.
 
-    Raises UserError if the package is not there, nothing answers at the address, or there is
-    no worker."""
+    Raises UserError if the package is missing, no scheduler responds at the address, or there is no
+    worker."""
     try:
         import distributed
     except ImportError:
-        raise UserError("--scheduler needs Python's package distributed: apt-get install "
+        raise UserError("--scheduler needs the Python package distributed: apt-get install "
                         "--no-install-recommends python3-distributed") from None
 
     def engine(step: Step, entries: Sequence[Any]) -> Generator[Any, None, None]:
         try:
             client = distributed.Client(address, timeout=10, set_as_default=False)
         except (OSError, ValueError) as error:
-            raise UserError(f"--scheduler: no scheduler answers at {address}: {error}") from None
+            raise UserError(f"--scheduler: no scheduler responds at {address}: {error}") from None
         with client:
             workers = client.scheduler_info()["workers"].values()
             if not workers:
@@ -122,12 +122,12 @@ def by_dask(address: str) -> Engine:
 
 
 def _through(executor: Executor, width: int, step: Step, entries: Sequence[Any]) -> Iterator[Any]:
-    """What an executor makes, never more than `width` instances under way, so that little is lost
-    by an end."""
+    """Yields what an executor makes, with at most `width` instances under way, so that little is
+    lost at an end."""
     waiting = iter(entries)
     running: dict[Future, Any] = {}
     while True:
-        # A process that is being started for it would tell of Ctrl-C.
+        # A process that is being started for it would report Ctrl-C.
         mask = signal.pthread_sigmask(signal.SIG_BLOCK, {signal.SIGINT})
         try:
             for entry in islice(waiting, width - len(running)):
@@ -140,8 +140,8 @@ def _through(executor: Executor, width: int, step: Step, entries: Sequence[Any])
             entry = running.pop(future)
             error = future.exception()
             if isinstance(error, BrokenExecutor):
-                raise UserError("a process of the batch was ended from outside, as for want of "
-                                "memory; --continue keeps what is whole")
+                raise UserError("a process of the batch was ended from outside, perhaps because "
+                                "memory ran out: --continue keeps what is complete")
             if error and not isinstance(error, Exception):
                 raise error
             yield (Failed(entry, f"it was not made: {type(error).__name__}: {error}") if error

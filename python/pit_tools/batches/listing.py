@@ -12,7 +12,7 @@ from typing import Iterator, Sequence
 from pit_tools.errors import UserError
 from pit_tools.instances.files import TEXTS
 
-#: What a batch writes beside the texts of its instances.
+#: The files that a batch writes besides the files of its instances.
 TABLES = ("MANIFEST", "SIZES", "BUILD")
 
 #: Bytes that a list may have, a name, and a line, of a plan and 64 zone files.
@@ -45,20 +45,20 @@ class Part:
 
     @classmethod
     def read(cls, text: str) -> "Part":
-        """A part as it is written, `2/5`. Raises UserError if it is none."""
+        """Returns a part as it is written, `2/5`. Raises UserError for any other text."""
         found = re.fullmatch("([1-9][0-9]{0,8})/([1-9][0-9]{0,8})", text)
         if not found or int(found[1]) > int(found[2]):
-            raise UserError(f"`{text}` is no part of a list, as 2/5")
+            raise UserError(f"`{text}` is not a part of a list, as 2/5")
         return cls(int(found[1]), int(found[2]))
 
     @property
-    def is_whole(self) -> bool:
+    def is_complete(self) -> bool:
         return self.of == 1
 
     @property
     def ending(self) -> str:
-        """What the names of its files end with."""
-        return "" if self.is_whole else f"-{self.number}-of-{self.of}"
+        """Returns the endings of its files' names."""
+        return "" if self.is_complete else f"-{self.number}-of-{self.of}"
 
 
 @dataclass(frozen=True)
@@ -74,11 +74,11 @@ class BatchList:
 
 
 def read_list(path: str, texts: Sequence[str] = TEXTS, others: Sequence[str] = ()) -> BatchList:
-    """The lines of a list, also the last one where it has no line end; words may be quoted.
+    """Returns the lines of a list, also a last one without a line end; names may be quoted.
 
-    Raises UserError, with the line, if a plan comes twice, ends with something else than .plan,
-    has no zone file, a file is not there, or one would be written over by a text of an instance,
-    a table of the batch, or another file that it writes.
+    Raises UserError, with the line, if a plan appears twice, does not end with .plan or has no zone
+    file, if a file is missing, or if an instance's file, a table of the batch or another output
+    would overwrite it.
     """
     with open(path, "rb") as file:
         content = file.read(MOST_BYTES + 1)
@@ -87,8 +87,8 @@ def read_list(path: str, texts: Sequence[str] = TEXTS, others: Sequence[str] = (
     lines = dict(_entries(path, content))
     if not lines:
         raise UserError(f"{path}: it has no line")
-    _refuse_same_instances(path, lines)
-    _refuse_writing_over(path, lines, texts, others)
+    _reject_same_instances(path, lines)
+    _reject_overwriting(path, lines, texts, others)
     return BatchList(os.path.normpath(path), hashlib.sha256(content).hexdigest(),
                      tuple(lines.values()))
 
@@ -111,18 +111,18 @@ def _entries(path: str, content: bytes) -> Iterator[tuple[int, Entry]]:
         if not words:
             continue
         if any(not word.isprintable() for word in words):
-            raise UserError(f"{place}: a name has a letter that does not print")
+            raise UserError(f"{place}: a name has a character that does not print")
         entry = Entry(os.path.normpath(words[0]), tuple(map(os.path.normpath, words[1:])))
         if not os.path.basename(entry.plan)[1:].endswith(".plan") or not entry.zones:
-            raise UserError(f"{place}: a line is a plan NAME.plan and its zone files")
+            raise UserError(f"{place}: a line must be a plan NAME.plan and its zone files")
         for name in entry.inputs:
             if not is_there(name):
-                raise UserError(f"{place}: {name} is not there, or is no file")
+                raise UserError(f"{place}: {name} is missing, or is not a file")
         yield number, entry
 
 
-def _refuse_same_instances(path: str, lines: dict[int, Entry]) -> None:
-    """Refuses lines whose instances would have the same files, by whichever names."""
+def _reject_same_instances(path: str, lines: dict[int, Entry]) -> None:
+    """Rejects lines whose instances would have the same files, under any names."""
     @lru_cache(None)
     def folder_of(path: str) -> str:
         return os.path.realpath(path)
@@ -132,14 +132,13 @@ def _refuse_same_instances(path: str, lines: dict[int, Entry]) -> None:
         folder, name = os.path.split(entry.name)
         before = first.setdefault(os.path.join(folder_of(folder), name), number)
         if before != number:
-            raise UserError(f"{path}: line {number}: `{entry.name}` comes twice, also in line "
+            raise UserError(f"{path}: line {number}: `{entry.name}` appears twice, also in line "
                             f"{before}: its instance would overwrite itself")
 
 
-def _refuse_writing_over(path: str, lines: dict[int, Entry], texts: Sequence[str],
-                         others: Sequence[str]) -> None:
-    """Refuses a list where a file that is to be written is one that is read, by whichever name or
-    link."""
+def _reject_overwriting(path: str, lines: dict[int, Entry], texts: Sequence[str],
+                        others: Sequence[str]) -> None:
+    """Rejects a list if an output is also an input, under any name or link."""
     identity_of = lru_cache(None)(_identity)
     read = {identity_of(path): path}
     for entry in lines.values():
@@ -155,7 +154,7 @@ def _refuse_writing_over(path: str, lines: dict[int, Entry], texts: Sequence[str
 
 
 def _identity(name: str) -> object:
-    """What a file is, by whichever of its names; a link that leads nowhere is like no other."""
+    """Returns what identifies a file under any of its names; a broken link equals no other."""
     try:
         status = os.stat(name)
     except OSError:

@@ -12,7 +12,7 @@ from typing import Any, Iterable, Iterator, Optional, Sequence, Union
 
 import numpy as np
 
-from pit_tools.batches.build import Way, build_told_once
+from pit_tools.batches.build import Way, build_text_once
 from pit_tools.batches.listing import Entry
 from pit_tools.errors import UserError
 from pit_tools.files.records import sum_of
@@ -31,8 +31,8 @@ MAKING = ".making-"
 
 @dataclass(frozen=True)
 class Made:
-    """An instance that is whole: its line of the list, the sums of its inputs and texts by name,
-    and its row of SIZES."""
+    """A complete instance: its line of the list, the sums of its inputs and files by name, and its
+    row of SIZES."""
 
     entry: Entry
     sums: dict[str, str]
@@ -41,34 +41,34 @@ class Made:
 
 @dataclass(frozen=True)
 class Failed:
-    """An entry with which a step failed, and what it said."""
+    """An entry for which a step failed, and its message."""
 
     entry: Any
     told: str
 
 
 def texts_of(way: Way) -> tuple[str, ...]:
-    """The endings of the files that a batch makes for each instance."""
+    """Returns the endings of the files that a batch makes for each instance."""
     return (*TEXTS, "thin") if way.thin else TEXTS
 
 
 def make(entry: Entry, way: Way, build: str) -> Union[Made, Failed]:
-    """Makes an instance by a way, which has to give this text of BUILD. Its texts come to their
-    places when all of them are right; where a step fails those that were there stay."""
+    """Makes an instance in a given way, which must have this text of BUILD. Its files get their
+    names when all of them are right; if a step fails, the former files stay."""
     try:
-        if build_told_once(way) != build:
-            raise UserError("this machine has other programs or packages than BUILD says")
+        if build_text_once(way) != build:
+            raise UserError("this machine has other programs or packages than BUILD lists")
         return _made(entry, way)
     except OSError as error:
         return Failed(entry,
                       f"{error.filename}: {error.strerror}" if error.filename else str(error))
     except (UserError, MemoryError) as error:
-        return Failed(entry, str(error) or "there is not memory enough")
+        return Failed(entry, str(error) or "out of memory")
 
 
 def _made(entry: Entry, way: Way) -> Made:
     before = {name: sum_of(os.path.join(way.folder, name)) for name in entry.inputs}
-    with _made_beside(os.path.join(way.folder, entry.name)) as base:
+    with _made_next_to(os.path.join(way.folder, entry.name)) as base:
         row = _measured(entry, way, base)
         texts = {f"{entry.name}.{text}": sum_of(f"{base}.{text}") for text in texts_of(way)}
         for name, found in before.items():
@@ -80,8 +80,8 @@ def _made(entry: Entry, way: Way) -> Made:
 
 
 @contextmanager
-def _made_beside(base: str) -> Iterator[str]:
-    """A base in a new folder beside that of an instance, which goes at the end."""
+def _made_next_to(base: str) -> Iterator[str]:
+    """A base in a new folder next to an instance's base; the folder is removed at the end."""
     folder, name = os.path.split(base)
     made = tempfile.mkdtemp(prefix=f".{name}{MAKING}", dir=folder)
     try:
@@ -91,7 +91,7 @@ def _made_beside(base: str) -> Iterator[str]:
 
 
 def clear_unfinished(entries: Iterable[Entry], folder: str) -> None:
-    """Takes away what a killed batch left of these instances."""
+    """Removes what a killed batch left of these instances."""
     by_folder: dict[str, set[str]] = {}
     for entry in entries:
         within, name = os.path.split(os.path.join(folder, entry.name))
@@ -103,7 +103,7 @@ def clear_unfinished(entries: Iterable[Entry], folder: str) -> None:
 
 
 def _ran(way: Way, words: Sequence[str]) -> str:
-    """What a step printed. Raises UserError if it failed."""
+    """Returns what a step printed. Raises UserError if it failed."""
     done = subprocess.run(words, capture_output=True, text=True, errors="replace", cwd=way.folder,
                           check=False)
     if done.returncode:
@@ -114,7 +114,7 @@ def _ran(way: Way, words: Sequence[str]) -> str:
 
 
 def _measured(entry: Entry, way: Way, base: str) -> list[str]:
-    """Compiles an instance to a base, and answers its row of SIZES."""
+    """Compiles an instance to a base, and returns its row of SIZES."""
     _ran(way,
          [way.pitc, "compile", "--plan", entry.plan, "--out", base, *way.options, *entry.zones])
     counts = _ran(way, [way.pitc, "check", base]).strip()
@@ -124,19 +124,18 @@ def _measured(entry: Entry, way: Way, base: str) -> list[str]:
                 [way.thin, "--plan", entry.plan, "--out", f"{base}.thin", *entry.zones]).strip()
     arcs = re.fullmatch(r"rows \d+ arcs (\d+) of (\d+)", told)
     if arcs is None or f" arcs {arcs[2]} " not in f"{counts} ":
-        raise UserError(f"pitc counts `{counts}`, and pitc_thin tells `{told}`")
+        raise UserError(f"pitc counts `{counts}`, but pitc_thin reports `{told}`")
     return row_of(entry.name, base, counts, way.seconds, int(arcs[1]))
 
 
 def row_of(name: str, base: str, counts: str, seconds: Optional[float] = None,
            thin_arcs: Optional[int] = None) -> list[str]:
-    """The row of SIZES of an instance of which `pitc check` told these counts. Its pit is found
-    by BASE.thin where that has so many arcs; the relaxations are omitted if there are no seconds
-    for them.
+    """Returns the row of SIZES of an instance, from the counts of `pitc check`. Its pit is found by
+    BASE.thin if that has `thin_arcs` arcs; without seconds the relaxations are omitted.
 
-    Raises UserError if this tool counts otherwise."""
+    Raises UserError if this tool's counts differ."""
     from pit_tools.pits.closure import ultimate_pit
-    from pit_tools.pits.files import told
+    from pit_tools.pits.files import pit_text
     from pit_tools.schedules.bounds import bounds_of
 
     arcs_path = f"{base}.prec" if thin_arcs is None else f"{base}.thin"
@@ -144,7 +143,7 @@ def row_of(name: str, base: str, counts: str, seconds: Optional[float] = None,
     blocks, values = present(mine.blocks, "block file"), present(mine.upit, "UPIT").values
     precedence: Any = present(mine.precedence, "precedence file")
     arcs, counted = precedence.nnz, dict(zip(counts.split()[::2], counts.split()[1::2]))
-    pit = told(ultimate_pit(values, precedence), blocks, values)
+    pit = pit_text(ultimate_pit(values, precedence), blocks, values)
     pit_blocks, pit_tonnes, pit_value = (part.split()[-1 if at == 2 else 0]
                                          for at, part in enumerate(pit.split(", ")))
     pcpsp, cpit = read_outline(f"{base}.pcpsp", "PCPSP"), read_outline(f"{base}.cpit", "CPIT")
@@ -152,7 +151,7 @@ def row_of(name: str, base: str, counts: str, seconds: Optional[float] = None,
              else arcs, "coefficients": pcpsp.uses, "limits": len(pcpsp.limits), "cpit": cpit.uses}
     ours = " ".join(f"{what} {count}" for what, count in found.items())
     if ours != counts or thin_arcs not in (None, arcs):
-        raise UserError(f"the programs count `{counts}`, thin arcs {thin_arcs}, and this tool "
+        raise UserError(f"the programs count `{counts}`, thin arcs {thin_arcs}, but this tool "
                         f"`{ours}`, arcs {arcs}")
     kilograms = int(np.rint(blocks.tonnes * 1000).astype(np.int64).sum())
     bounds = bounds_of(read_instance(base, TEXTS, arcs_path), seconds) if seconds else {}

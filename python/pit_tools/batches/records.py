@@ -1,9 +1,8 @@
-"""Records of a batch: which instances are whole, with the sums of what went in and came out.
+"""Records of a batch: its complete instances, with the sums of their inputs and outputs.
 
 A record is a file RECORD in the folder of the batch, or RECORD-2-of-5 of a part. Its first line has
-the text of BUILD, and each further one an instance. A line is added when its instance is whole, so
-a batch that is killed leaves the lines of those that are; whether they still are is judged by the
-sums.
+the text of BUILD, and each further line an instance. A line is added when its instance is complete,
+so a killed batch leaves the lines of complete instances; the sums show whether they still are.
 """
 from __future__ import annotations
 
@@ -29,7 +28,7 @@ MOST_LINE = 1 << 20
 
 @dataclass(frozen=True)
 class Recorded:
-    """An instance as a record has it: in which file, by which BUILD, and what."""
+    """An instance as a record has it: the record's file, its BUILD, and the instance."""
 
     path: str
     build: str
@@ -41,8 +40,8 @@ def record_path(folder: str, part: Part = Part()) -> str:
 
 
 def recorded_in(folder: str) -> Iterator[Recorded]:
-    """The instances of all records of a folder, the newer lines of a file behind the older
-    ones. A line that was cut short is omitted. Raises UserError if a file of such a name is no
+    """Returns the instances of all records of a folder, the newer lines of a file after the older
+    ones. A line that was cut short is omitted. Raises UserError if a file of such a name is not a
     record."""
     for name in sorted(os.listdir(folder)):
         if re.fullmatch(rf"{NAME}(-\d+-of-\d+)?", name):
@@ -53,8 +52,8 @@ def recorded_in(folder: str) -> Iterator[Recorded]:
 
 
 def build_of(path: str) -> Optional[str]:
-    """The text of BUILD that a record begins with; None if there is no record, or nothing in
-    it."""
+    """Returns the text of BUILD that begins a record; None if there is no record, or it is
+    empty."""
     try:
         with inputs.looking():
             _, first = next(numbered_lines(path, MOST_LINE), (1, ""))
@@ -65,11 +64,12 @@ def build_of(path: str) -> Optional[str]:
         return build
     if not first:
         return None
-    raise UserError(f"{path}: another file is there, and no record of a batch")
+    raise UserError(f"{path}: this existing file is not a record of a batch")
 
 
 def lines_of(path: str) -> Iterator[dict[str, Any]]:
-    """What each line of a record but the first says by name: nothing for one that was cut short."""
+    """Returns the values of each line of a record except the first, by name: nothing for a line
+    that was cut short."""
     with inputs.looking():
         for _, line in islice(numbered_lines(path, MOST_LINE), 1, None):
             yield _parsed(line)
@@ -85,7 +85,7 @@ def _made_in(path: str) -> Iterator[Made]:
 
 
 def _parsed(line: str) -> dict[str, Any]:
-    """What a line says by name: nothing, if it is no record."""
+    """Returns the values of a line by name: nothing if it is not a line of a record."""
     try:
         found = json.loads(line)
     except (ValueError, RecursionError):
@@ -97,7 +97,7 @@ class Record:
     """A record that is being written."""
 
     def __init__(self, path: str, build: str, goes_on: bool):
-        """Goes on with the record that is there, if it is of this BUILD, or begins it anew."""
+        """Continues an existing record if it has this BUILD; otherwise begins a new one."""
         self.path = path
         goes_on = build_of(self.path) == build and goes_on
         if not goes_on:
@@ -106,14 +106,14 @@ class Record:
         # pylint: disable-next=consider-using-with
         self.file: IO[str] = open(self.path, "a", encoding="utf-8")
         if goes_on:
-            # What a killed batch left of a line gets an end.
+            # An end for the line that a killed batch left unfinished.
             self._write("\n")
 
     def add(self, made: Made) -> None:
         self.add_line({"files": made.entry.inputs, "sums": made.sums, "row": made.row})
 
     def add_line(self, found: dict[str, Any]) -> None:
-        """Adds a line that says this by name."""
+        """Adds a line with these values by name."""
         self._write(json.dumps(found) + "\n")
 
     def _write(self, text: str) -> None:
@@ -141,7 +141,7 @@ class Sums:
         self.found: dict[str, Optional[str]] = {}
 
     def of(self, name: str) -> Optional[str]:
-        """The sum of a file, None if it cannot be read."""
+        """Returns the sum of a file, None if it cannot be read."""
         if name not in self.found:
             try:
                 with inputs.looking():
@@ -151,5 +151,5 @@ class Sums:
         return self.found[name]
 
     def other(self, names: Iterable[str], wanted: dict[str, str]) -> Optional[str]:
-        """The first of the names whose file has another sum than is wanted."""
+        """Returns the first of the names whose file has a sum other than the expected one."""
         return next((name for name in names if self.of(name) != wanted.get(name, "")), None)

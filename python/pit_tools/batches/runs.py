@@ -1,5 +1,4 @@
-"""Batches: many instances by `pitc`, with a manifest of all that went in, and a table of what came
-out."""
+"""Batches: many instances by `pitc`, with a manifest of all inputs, and a table of the results."""
 from __future__ import annotations
 
 import csv
@@ -12,7 +11,7 @@ from functools import partial
 from typing import Iterable, Iterator, Optional, Sequence
 
 from pit_tools import progress
-from pit_tools.batches.build import Way, build_told
+from pit_tools.batches.build import Way, build_text
 from pit_tools.batches.engines import Engine, in_turn
 from pit_tools.batches.listing import TABLES, BatchList, Entry, Part, read_list
 from pit_tools.batches.making import COLUMNS, Failed, Made, clear_unfinished, make, texts_of
@@ -31,27 +30,27 @@ LOCK = ".batch-lock"
 
 @contextmanager
 def locked(folder: str, part: Part = Part()) -> Iterator[None]:
-    """Holds a folder for one batch alone; or for a part of one, beside its other parts.
+    """Locks a folder for one batch only, or for a part of one, together with its other parts.
 
-    Raises UserError if another one holds it."""
-    told = f"{os.path.abspath(folder)}: another batch runs in this folder"
+    Raises UserError if another one has the lock."""
+    message = f"{os.path.abspath(folder)}: another batch runs in this folder: wait until it ends"
     with ExitStack() as opened:
-        lock(opened, os.path.join(folder, LOCK), fcntl.LOCK_EX if part.is_whole else fcntl.LOCK_SH,
-             told)
-        if not part.is_whole:
-            lock(opened, os.path.join(folder, f"{LOCK}{part.ending}"), fcntl.LOCK_EX, told)
+        lock(opened, os.path.join(folder, LOCK),
+             fcntl.LOCK_EX if part.is_complete else fcntl.LOCK_SH, message)
+        if not part.is_complete:
+            lock(opened, os.path.join(folder, f"{LOCK}{part.ending}"), fcntl.LOCK_EX, message)
         yield
 
 
-#: What is reported where nothing has succeeded.
+#: The message if nothing has succeeded.
 STOPPED = "stopped: {} failed, and none succeeded"
 
 
 class Batch:
     """A list whose instances are made in the current folder, or a part of it.
 
-    `failed` has a line for each step that failed, `kept` those instances that were whole, `made`
-    all that are."""
+    `failed` has a line for each failed step, `kept` has the instances that were complete before,
+    `made` all complete ones."""
 
     def __init__(self, path: str, way: Way, part: Part = Part()):
         self.way, self.part = way, part
@@ -64,31 +63,30 @@ class Batch:
 
     def run(self, engine: Engine = in_turn, goes_on: bool = False,
             stop_at: Optional[int] = None) -> bool:
-        """Makes each instance, or where it continues those that are not whole; then BUILD, SIZES,
-        and MANIFEST where nothing failed. A part makes none of these. Nothing is taken away
-        before it is known that pitc works. It stops when `stop_at` instances have failed and none
-        is whole.
+        """Makes each instance, or with `continued` the incomplete ones; then BUILD, SIZES, and
+        MANIFEST if nothing failed. A part makes none of these. Nothing is removed before it is
+        known that pitc works. It stops when `stop_at` instances have failed and none is complete.
         """
         with locked(self.way.folder, self.part):
-            build = build_told(self.way)
+            build = build_text(self.way)
             if goes_on:
                 self._keep(build)
             _judge_old(self.way.folder, [entry for entry in self.entries if entry not in self.made],
                        texts_of(self.way))
-            renames.clear_left([record_path(self.way.folder, self.part),
-                                *(TABLES if self.part.is_whole else ())])
+            renames.clear_leftovers([record_path(self.way.folder, self.part),
+                                     *(TABLES if self.part.is_complete else ())])
             with Record(record_path(self.way.folder, self.part), build, goes_on) as record:
                 _remove(TABLES)
                 clear_unfinished(self.entries, self.way.folder)
                 self._make(engine, build, record, stop_at)
-            if self.part.is_whole:
-                if build_told(self.way) != build:
+            if self.part.is_complete:
+                if build_text(self.way) != build:
                     self.failed.append("the programs or the tool were changed while the batch ran")
                 self.failed += finish(self.list, build, self.made, not self.failed)
         return not self.failed
 
     def _keep(self, build: str) -> None:
-        """Takes over what records say, and sums say too, of this BUILD."""
+        """Takes over the instances of this BUILD that records list and sums confirm."""
         sums = Sums(self.way.folder)
         for one in recorded_in(self.way.folder):
             texts = [f"{one.made.entry.name}.{text}" for text in texts_of(self.way)]
@@ -119,7 +117,7 @@ def _kind(name: str) -> str:
 
 
 def _judge_old(folder: str, entries: Iterable[Entry], texts: Sequence[str]) -> None:
-    """Refuses a batch that would replace files of another kind."""
+    """Rejects a batch that would replace files of another kind."""
     for name in (*TABLES, *(f"{entry.name}.{text}" for entry in entries for text in texts)):
         outputs.judged_old(os.path.join(folder, name), _kind(name))
 
@@ -131,8 +129,8 @@ def _remove(names: Iterable[str]) -> None:
 
 
 def finish(listed: BatchList, build: str, made: dict[Entry, Made], is_right: bool) -> list[str]:
-    """Writes BUILD and SIZES of what is whole, and MANIFEST where all of the list is, and no input
-    is another than when its instances were made. Answers what is not so."""
+    """Writes BUILD and SIZES of the complete instances, and MANIFEST if the list is complete and no
+    input has changed since its instances were made. Returns messages about what has changed."""
     rows = [made[entry].row for entry in listed.entries if entry in made]
     text = io.StringIO()
     csv.writer(text, delimiter=" ", lineterminator="\n").writerows([COLUMNS, *rows])
@@ -160,8 +158,8 @@ def finish(listed: BatchList, build: str, made: dict[Entry, Made], is_right: boo
 
 
 def _changed(listed: BatchList, made: dict[Entry, Made]) -> list[str]:
-    """Inputs that are no longer, or were not for all instances, what they were when an instance was
-    made."""
+    """Returns messages about inputs that have changed since an instance was made, or differed
+    between instances."""
     sums = Sums("")
     changed = [] if sums.of(listed.path) == listed.sum else [listed.path]
     for entry in listed.entries:
@@ -180,9 +178,9 @@ class Joining:
         self.failed: list[str] = []
 
     def run(self) -> bool:
-        """Takes over each instance of which a record of a folder says, and its sums say too, that
-        it is whole; then BUILD, SIZES and MANIFEST as those of one batch. Nothing is taken away
-        before all are found."""
+        """Takes over each instance that a record of a folder lists as complete and sums confirm;
+        then writes BUILD, SIZES and MANIFEST as of one batch. Nothing is removed before all are
+        found."""
         with ExitStack() as held:
             for real in dict.fromkeys(os.path.realpath(folder) for folder in [".", *self.folders]):
                 held.enter_context(locked(real))
@@ -196,7 +194,7 @@ class Joining:
                        (*TEXTS, "thin"))
             texts = [name for _, made in whole for name in made.sums
                      if name not in made.entry.inputs]
-            renames.clear_left([record_path(""), *TABLES, *texts])
+            renames.clear_leftovers([record_path(""), *TABLES, *texts])
             _remove(TABLES)
             for folder, made in whole:
                 _copied(folder, made)
@@ -208,37 +206,38 @@ class Joining:
         return not self.failed
 
     def _whole(self, found: Sequence[tuple[str, Recorded]]) -> list[tuple[str, Made]]:
-        """The folder and the record of each instance of the list; `failed` says of which there is
-        none."""
+        """Returns the folder and the record of each instance of the list; `failed` names the
+        missing ones."""
         here, sums = Sums(""), {folder: Sums(folder) for folder in self.folders}
         by_entry: dict[Entry, list[tuple[str, Recorded]]] = {}
         for folder, one in found:
             by_entry.setdefault(one.made.entry, []).append((folder, one))
         whole = []
         for entry in self.list.entries:
-            told = "no part has it"
+            message = "no part has it"
             for folder, one in by_entry.get(entry, []):
                 texts = [name for name in one.made.sums if name not in entry.inputs]
                 other = here.other(entry.inputs, one.made.sums)
-                told = f"{other} is not the one that {one.path} names" if other else ""
-                if not told and (other := sums[folder].other(texts, one.made.sums)):
-                    told = f"{os.path.join(folder, other)} is not the one that {one.path} names"
-                if not told:
+                message = f"{other} differs from the one that {one.path} names" if other else ""
+                if not message and (other := sums[folder].other(texts, one.made.sums)):
+                    message = (f"{os.path.join(folder, other)} differs from the one that "
+                               f"{one.path} names")
+                if not message:
                     whole.append((folder, one.made))
                     break
-            if told:
-                self.failed.append(f"{entry.plan}: {told}")
+            if message:
+                self.failed.append(f"{entry.plan}: {message}")
         return whole
 
 
 def _common_build(folders: Sequence[str], found: Sequence[Recorded]) -> str:
-    """The text of BUILD that all records have. Raises UserError if there is none, or they
+    """Returns the text of BUILD that all records have. Raises UserError if there is none, or they
     differ."""
     by_build = {one.build: one.path for one in found}
     if not by_build:
         raise UserError(f"no record of a batch is in {', '.join(folders)}")
     if len(by_build) > 1:
-        raise UserError("parts were made by different builds: see the first lines of "
+        raise UserError("parts were made by different builds: compare the first lines of "
                         f"{' and '.join(list(by_build.values())[:2])}")
     return next(iter(by_build))
 

@@ -1,1 +1,1 @@
-"""Solvers of other people over many instances, within limits, with judged results."""
+"""Runs other solvers over many instances, within limits, with judged results."""

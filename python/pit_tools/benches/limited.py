@@ -1,10 +1,10 @@
-"""Runs another program within limits of time and memory, and leaves nothing of it behind.
+"""Runs another program within limits of time and memory, and leaves none of its processes.
 
-A supervisor, a process of a new interpreter, starts the program. What the program starts becomes a
-child of the supervisor at the latest when its parent ends, whichever session it is in. The
-supervisor ends all of these at a limit, when the program ends, and when the process that waits for
-the supervisor ends, by whatever cause. Without /proc it ends the program's process group alone, and
-looks at no limit of memory.
+A supervisor, a process of a new interpreter, starts the program. A process that the program starts
+becomes a child of the supervisor at the latest when its parent ends, in any session. The supervisor
+ends all of these at a limit, when the program ends, and when the process that waits for the
+supervisor ends, for any cause. Without /proc it ends only the program's process group, and has no
+memory limit.
 """
 from __future__ import annotations
 
@@ -24,16 +24,17 @@ from typing import Any, Optional, Sequence
 
 from pit_tools.errors import UserError
 
-# What the new interpreter runs: it finds modules where this one does.
+# The code of the new interpreter: it finds modules in the same folders as this one.
 _CODE = ("import json, sys; sys.path[:] = json.loads(sys.argv[1]); "
          "from pit_tools.benches import limited; limited.supervise()")
 
-# Calls of Linux: a process ends with its parent; and what its children leave becomes its own.
+# Calls of Linux: a process ends with its parent; and it adopts the processes that its children
+# leave.
 _PR_SET_PDEATHSIG, _PR_SET_CHILD_SUBREAPER = 1, 36
 _F_SETPIPE_SZ = 1031
 
-#: Seconds between two looks at the memory; seconds from TERM to KILL; bytes that are kept of what
-#: the program prints last.
+#: Seconds between two measurements of memory; seconds from TERM to KILL; bytes that are kept of the
+#: program's last output.
 PAUSE, GRACE, TAIL = 0.05, 1.0, 4096
 
 #: Seconds after which a supervisor that the program has stopped continues; and seconds beyond the
@@ -45,9 +46,8 @@ TIME, MEMORY = "time limit", "memory limit"
 
 @dataclass(frozen=True)
 class Ran:
-    """How a program ended: `status 0`, `signal 9`, `time limit` or `memory limit`; its seconds,
-    those of processors, the most memory of all its processes, in MB, and the end of what it
-    printed."""
+    """How a program ended: `status 0`, `signal 9`, `time limit` or `memory limit`; its seconds, its
+    processor seconds, the peak memory of all its processes, in MB, and the end of its output."""
 
     ended: str
     seconds: float
@@ -87,17 +87,17 @@ def run(words: Sequence[str], scratch: str, seconds: float,
 
 
 def _printed(supervisor: subprocess.Popen[bytes], end: float) -> bytes:
-    """What a supervisor prints until it ends; it is killed if it has not ended by then."""
+    """Returns what a supervisor prints until it ends; kills it if it has not ended by then."""
     assert supervisor.stdout is not None
     printed = b""
     while time.monotonic() < end:
         if not select.select([supervisor.stdout], [], [], WAKE)[0]:
             supervisor.send_signal(signal.SIGCONT)
             continue
-        piece = os.read(supervisor.stdout.fileno(), 1 << 16)
-        if not piece:
+        chunk = os.read(supervisor.stdout.fileno(), 1 << 16)
+        if not chunk:
             return printed
-        printed += piece
+        printed += chunk
     supervisor.kill()
     return b""
 
@@ -108,14 +108,14 @@ def _printed(supervisor: subprocess.Popen[bytes], end: float) -> bytes:
 def supervise() -> None:
     """Runs, in the supervisor, the program of the line that standard input has, and prints how it
     ended."""
-    answer = os.dup(1)
+    result = os.dup(1)
     os.dup2(2, 1)
     line = b""
     while not line.endswith(b"\n"):
-        piece = os.read(0, 1 << 16)
-        if not piece:
+        chunk = os.read(0, 1 << 16)
+        if not chunk:
             return
-        line += piece
+        line += chunk
     task = json.loads(line)
     _call(_PR_SET_CHILD_SUBREAPER, 1)
     try:
@@ -126,11 +126,11 @@ def supervise() -> None:
     except _Alone:
         shutil.rmtree(task["scratch"], ignore_errors=True)
         return
-    os.write(answer, json.dumps(found).encode())
+    os.write(result, json.dumps(found).encode())
 
 
 class _Alone(Exception):
-    """Nobody waits for the answer any more."""
+    """The process that waits for the result has ended."""
 
 
 def _call(what: int, value: int) -> None:
@@ -139,7 +139,8 @@ def _call(what: int, value: int) -> None:
 
 
 def _widen(pipe: int) -> None:
-    """Gives a pipe of Linux a megabyte, so that what prints much need not wait for the reader."""
+    """Gives a pipe of Linux a megabyte, so that a program with much output need not wait for the
+    reader."""
     if sys.platform == "linux":
         try:
             fcntl.fcntl(pipe, _F_SETPIPE_SZ, 1 << 20)
@@ -186,13 +187,13 @@ class _Watch:
             child.returncode = self.status
         used = resource.getrusage(resource.RUSAGE_CHILDREN)
         unit = 1e3 if sys.platform == "linux" else 1e6
-        return Ran(ended or _told(self.status), round(seconds, 3),
+        return Ran(ended or _text_of(self.status), round(seconds, 3),
                    round(used.ru_utime + used.ru_stime, 3),
                    round(max(self.peak, used.ru_maxrss / unit), 1),
                    self.printed.decode("utf-8", "replace"))
 
     def _limit(self, begin: float) -> Optional[str]:
-        """The limit that is reached, None if the program has ended or none is."""
+        """Returns the limit that is reached, None if the program has ended or no limit is."""
         now = time.monotonic()
         if self.status is not None:
             return None
@@ -205,15 +206,15 @@ class _Watch:
         return MEMORY if self.megabytes is not None and self.peak > self.megabytes else None
 
     def _wait(self, pause: float) -> None:
-        """Waits for what is printed, for an end, or until the pause is over."""
+        """Waits for output, for an end, or until the pause is over."""
         for source in select.select(list(self.sources), [], [], pause)[0]:
-            piece = os.read(source, 1 << 16)
-            if source == 0 and not piece:
+            chunk = os.read(source, 1 << 16)
+            if source == 0 and not chunk:
                 raise _Alone
-            if not piece:
+            if not chunk:
                 self.sources.discard(source)
             elif source not in (0, self.woken):
-                self.printed = (self.printed + piece)[-TAIL:]
+                self.printed = (self.printed + chunk)[-TAIL:]
         self._reap()
 
     def _reap(self) -> None:
@@ -228,7 +229,8 @@ class _Watch:
                 self.status = status
 
     def _end_all(self) -> None:
-        """Ends the program and all that it has started: by TERM, and what stays by KILL."""
+        """Ends the program and all processes that it has started: by TERM, and what remains by
+        KILL."""
         self.sources.discard(0)
         begin, how = time.monotonic(), signal.SIGTERM
         self._signal(how)
@@ -250,7 +252,7 @@ class _Watch:
                 pass
 
 
-def _told(status: Optional[int]) -> str:
+def _text_of(status: Optional[int]) -> str:
     assert status is not None
     if os.WIFSIGNALED(status):
         return f"signal {os.WTERMSIG(status)}"

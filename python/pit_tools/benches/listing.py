@@ -10,10 +10,10 @@ from pit_tools.texts.lines import numbered_lines
 
 
 def read_names(path: str) -> tuple[str, ...]:
-    """The bases of a list's instances, in its order: a plan NAME.plan means NAME.
+    """Returns the bases of a list's instances, in its order: a plan NAME.plan means NAME.
 
-    Raises UserError, with the line, if a base comes twice, cannot be split into words, or there is
-    none."""
+    Raises UserError, with the line, if a base appears twice, cannot be split into words, or there
+    is none."""
     found: dict[str, int] = {}
     for number, line in numbered_lines(path, MOST_LINE):
         try:
@@ -25,7 +25,7 @@ def read_names(path: str) -> tuple[str, ...]:
         name = os.path.normpath(words[0][:-len(".plan")] if words[0].endswith(".plan")
                                 else words[0])
         if name in found:
-            raise UserError(f"{path}: line {number}: `{name}` comes twice, also in line "
+            raise UserError(f"{path}: line {number}: `{name}` appears twice, also in line "
                             f"{found[name]}")
         found[name] = number
     if not found:

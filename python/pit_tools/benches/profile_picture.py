@@ -8,8 +8,8 @@ from pit_tools.surveys.pictures import figure
 
 
 def profile_picture(profiles: dict[str, np.ndarray], instances: int) -> Figure:
-    """For each solver the share of all instances that it solves in at most so many times the
-    smallest seconds of any solver."""
+    """Returns for each solver the share of all instances that it solves within a multiple of the
+    fewest seconds of any solver."""
     drawn = figure(7, 4.5)
     axes = drawn.add_subplot()
     most = max((ratios[-1] for ratios in profiles.values() if len(ratios)), default=1.0)
@@ -21,7 +21,7 @@ def profile_picture(profiles: dict[str, np.ndarray], instances: int) -> Figure:
     axes.set_xscale("log", base=2)
     axes.set_xlim(1, end)
     axes.set_ylim(0, 1.02)
-    axes.set_xlabel("times the least seconds of any solver")
+    axes.set_xlabel("multiple of the fewest seconds of any solver")
     axes.set_ylabel("share of instances solved best")
     axes.set_title(f"performance profiles of {instances} instances", loc="left", fontsize=10)
     axes.grid(alpha=0.3)

@@ -1,4 +1,4 @@
-"""What the solvers of a bench have reached: a table, and performance profiles."""
+"""The results of a bench's solvers: a table, and performance profiles."""
 from __future__ import annotations
 
 from typing import Any, Optional, Sequence
@@ -12,15 +12,16 @@ COLUMNS = ("name", "solver", "ended", "schedule", "worth", "bound", "bound_of", 
            "seconds", "cpu_seconds", "megabytes", "host", "told")
 
 
-#: How numbers stand in the text: values to cents, gaps to six decimals.
+#: The form of numbers in the text: values to cents, gaps to six decimals.
 FORMS = {"worth": "{:.2f}", "bound": "{:.2f}", "gap": "{:.6f}", "seconds": "{:.3f}",
          "cpu_seconds": "{:.3f}", "megabytes": "{:.1f}"}
 
 
 def table_of(names: Sequence[str], solvers: Sequence[str],
              cells: dict[tuple[str, str], dict[str, Any]], ratio: float) -> pd.DataFrame:
-    """A row for each instance and solver that has been run, in these orders, by cells of (solver,
-    name); those of the bound have no solver. Within `ratio` of the best worth is best too."""
+    """Returns a row for each instance and solver that has been run, in these orders, from cells of
+    (solver, name); a bound has no solver. A schedule within `ratio` of the best worth is best
+    too."""
     rows = []
     for name in names:
         bound = cells.get(("", name), {})

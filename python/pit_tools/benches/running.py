@@ -33,7 +33,7 @@ RUNNING = ".running-"
 @dataclass(frozen=True)
 class Setting:
     """How a bench is run: its base, an absolute path; the solvers; `cpit` or `pcpsp`; the limits of
-    each run, in seconds and MB, and of each relaxation, in seconds, 0 where there is to be none."""
+    each run, in seconds and MB, and of each relaxation, in seconds, 0 for no relaxations."""
 
     base: str
     folder: str
@@ -64,9 +64,9 @@ class Done:
     cells: dict[str, Any]
 
 
-def build_told(setting: Setting) -> str:
-    """What the results of a bench depend on besides solvers and instances: limits, and what judges
-    them."""
+def build_text(setting: Setting) -> str:
+    """Returns what the results of a bench depend on besides solvers and instances: limits, and what
+    judges them."""
     packages = " ".join(f"{name} {metadata.version(name)}" for name in ("numpy", "scipy", "pandas"))
     memory = "none" if setting.megabytes is None else f"{setting.megabytes:g} MB"
     return (f"bench of {setting.problem}\nlimits: {setting.seconds:g} s, memory {memory}, "
@@ -75,8 +75,8 @@ def build_told(setting: Setting) -> str:
 
 
 @lru_cache(None)
-def _build_told_once(setting: Setting) -> str:
-    return build_told(setting)
+def _build_text_once(setting: Setting) -> str:
+    return build_text(setting)
 
 
 def files_of(task: Task, setting: Setting) -> dict[str, str]:
@@ -93,7 +93,8 @@ def files_of(task: Task, setting: Setting) -> dict[str, str]:
 
 def sums_of(task: Task, setting: Setting,
             sum_by: Callable[[str], Optional[str]] = sum_of) -> dict[str, Optional[str]]:
-    """The sums of what a task depends on: its solver, by `solver`, and files, by their names."""
+    """Returns the sums of what a task depends on: its solver, by `solver`, and files, by their
+    names."""
     solver = _solver_of(task, setting)
     return {"solver": solver.sum if solver else "",
             **{name: sum_by(path) for name, path in files_of(task, setting).items()}}
@@ -104,24 +105,24 @@ def _solver_of(task: Task, setting: Setting) -> Optional[Solver]:
 
 
 def run_task(task: Task, setting: Setting, build: str) -> Union[Done, Failed]:
-    """Does a task of a bench, of which a machine has to give this text of its build."""
+    """Does a task of a bench, on a machine that must have this text of its build."""
     try:
-        if _build_told_once(setting) != build:
+        if _build_text_once(setting) != build:
             raise UserError("this machine has another tool or other packages than the bench")
         before = sums_of(task, setting)
         solver = _solver_of(task, setting)
         cells = _bound(task, setting) if solver is None else _run(task, setting, solver)
         if sums_of(task, setting) != before:
-            raise UserError("a file of the instance was changed meanwhile")
+            raise UserError("a file of the instance was changed during the run")
         return Done(task, {name: found or "" for name, found in before.items()}, cells)
     except OSError as error:
         return Failed(task, f"{error.filename}: {error.strerror}" if error.filename else str(error))
     except (UserError, MemoryError) as error:
-        return Failed(task, str(error) or "there is not memory enough")
+        return Failed(task, str(error) or "out of memory")
 
 
 def _bound(task: Task, setting: Setting) -> dict[str, Any]:
-    """What no schedule is worth more than: the relaxation, or else the ultimate pit."""
+    """Returns the upper bound of every schedule: the relaxation, or else the ultimate pit."""
     base = os.path.join(setting.folder, task.name)
     mine = read_instance(base, [text for text in TEXTS
                                 if text not in ("cpit", "pcpsp") or text == setting.problem])
@@ -129,7 +130,7 @@ def _bound(task: Task, setting: Setting) -> dict[str, Any]:
     relaxed = bounds.get(f"{setting.problem.upper()}, relaxed")
     if relaxed is not None:
         return {"bound": relaxed, "bound_of": "relaxation"}
-    # That of the UPIT may have other values, in files of other makers.
+    # The UPIT may have other values, in files of other programs.
     values = mine.problem(setting.problem).values.max(axis=1)
     return {"bound": worth_of_pit(values, mine.precedence), "bound_of": "pit"}
 
@@ -154,16 +155,16 @@ def _run(task: Task, setting: Setting, solver: Solver) -> dict[str, Any]:
         ran = limited.run(solver.filled(values), scratch, setting.seconds, setting.megabytes)
         with inputs.looking():
             judged = _judged(values, problem, precedence, ran.ended)
-        told = judged.pop("told") or ("" if ran.ended == "status 0" else _last_line(ran.printed))
+        message = judged.pop("told") or ("" if ran.ended == "status 0" else _last_line(ran.printed))
         return {"ended": ran.ended, **judged, "seconds": ran.seconds, "cpu_seconds": ran.cpu,
-                "megabytes": ran.megabytes, "host": platform.node(), "told": told}
+                "megabytes": ran.megabytes, "host": platform.node(), "told": message}
     finally:
         shutil.rmtree(scratch, ignore_errors=True)
 
 
 def _judged(values: dict[str, str], problem: Any, precedence: Any, ended: str) -> dict[str, Any]:
-    """What `check-schedule` finds of what a solver has written. An empty file is a schedule that
-    mines nothing, but of a solver that did not succeed it is none."""
+    """Returns what `check-schedule` finds of a solver's output. An empty file is a schedule that
+    mines nothing, except from a solver that did not succeed, where it is none."""
     place = next((one for one in ("out", "solution") if _has_content(values[one])), None)
     if place is None and ended == "status 0" and os.path.isfile(values["out"]):
         place = "out"
@@ -174,8 +175,8 @@ def _judged(values: dict[str, str], problem: Any, precedence: Any, ended: str) -
                     else schedule_of_variables(read_variables(values[place]), problem))
         found = check(schedule, problem, precedence)
     except UserError as error:
-        told = str(error).replace(values[place], f"{{{place}}}")
-        return {"schedule": "unreadable", "worth": None, "told": told}
+        message = str(error).replace(values[place], f"{{{place}}}")
+        return {"schedule": "unreadable", "worth": None, "told": message}
     return {"schedule": "feasible" if found.holds else "violated", "worth": found.worth,
             "told": "" if found.holds else found.broken[0]}
 

@@ -1,5 +1,5 @@
-"""Benches: solvers over the instances of a list, recorded run by run, so that one that was cut
-continues."""
+"""Benches: solvers over the instances of a list, recorded run by run, so that an interrupted bench
+can continue."""
 from __future__ import annotations
 
 import fcntl
@@ -19,21 +19,21 @@ from pit_tools.batches.records import Record, Sums, build_of, lines_of
 from pit_tools.batches.runs import STOPPED
 from pit_tools.benches.listing import read_names
 from pit_tools.benches.results import profile_of, shown, table_of
-from pit_tools.benches.running import (RUNNING, Done, Setting, Task, build_told, files_of, run_task,
+from pit_tools.benches.running import (RUNNING, Done, Setting, Task, build_text, files_of, run_task,
                                        sums_of)
 from pit_tools.errors import UserError
 from pit_tools.files import inputs, outputs
 from pit_tools.files.locks import lock
 
-#: What a bench writes behind its base, and of which kinds tables and pictures are.
+#: The files that a bench writes under its base, and the kinds of its tables and pictures.
 TABLE, COLUMNS, PICTURE, RUNS = ".csv", ".parquet", ".svg", ".runs"
 KINDS = {TABLE: "table of a bench", COLUMNS: "table of a bench in Parquet", PICTURE: "SVG picture"}
 
 
 class Bench:
-    """A list over which solvers are run, or a part of its runs. `done` has those that are done,
-    `kept` how many of them were before, `failed` a line for each that could not be done, and
-    `remarks` one for each file that could not be written."""
+    """A list over which solvers are run, or a part of its runs. `done` has the finished runs,
+    `kept` the number that were finished before, `failed` a line for each run that could not be
+    done, and `remarks` one for each file that could not be written."""
 
     def __init__(self, path: str, setting: Setting, part: Part = Part()):
         self.setting, self.part = setting, part
@@ -48,8 +48,8 @@ class Bench:
         for task in self.tasks:
             for name, file in files_of(task, setting).items():
                 if not os.path.isfile(file):
-                    raise UserError(f"{name} is not there: {task} needs it")
-        if part.is_whole:
+                    raise UserError(f"{name} is missing: {task} needs it")
+        if part.is_complete:
             # Before hours of runs.
             for ending, kind in KINDS.items():
                 place = os.path.relpath(setting.base) + ending
@@ -58,33 +58,33 @@ class Bench:
 
     def run(self, engine: Engine = in_turn, goes_on: bool = False,
             stop_at: Optional[int] = None) -> None:
-        """Does each task, or where it continues those that no record has of the same files and
-        solver. It stops when `stop_at` solvers' runs have failed and none has given a schedule.
+        """Does each task, or if it continues the tasks that no record has for the same files and
+        solver. It stops when `stop_at` solvers' runs have failed and none has produced a schedule.
 
-        Raises UserError if it is to go on from records of another setting."""
-        base, build = self.setting.base, build_told(self.setting)
+        Raises UserError if it should continue from records of another setting."""
+        base, build = self.setting.base, build_text(self.setting)
         with ExitStack() as opened:
-            # The parts of one bench run beside one another.
-            told = f"{base}{RUNS}: another bench writes it"
+            # The parts of one bench run in parallel.
+            message = f"{base}{RUNS}: another bench writes it: wait until that ends"
             lock(opened, f"{base}{RUNS}.lock",
-                 fcntl.LOCK_EX if self.part.is_whole else fcntl.LOCK_SH, told)
+                 fcntl.LOCK_EX if self.part.is_complete else fcntl.LOCK_SH, message)
             path = f"{base}{RUNS}{self.part.ending}"
-            if not self.part.is_whole:
-                lock(opened, f"{path}.lock", fcntl.LOCK_EX, told)
+            if not self.part.is_complete:
+                lock(opened, f"{path}.lock", fcntl.LOCK_EX, message)
             if goes_on:
                 self._keep(build, [base])
-            self._clear_left()
+            self._clear_leftovers()
             with opened.enter_context(Record(path, build, goes_on)) as record:
                 self._run(engine, build, record, stop_at)
 
     def join(self, folders: Sequence[str]) -> None:
-        """Takes the runs that records in these folders have of the same files and solvers."""
+        """Takes the runs of the same files and solvers from the records in these folders."""
         name = os.path.basename(self.setting.base)
-        self._keep(build_told(self.setting), [os.path.join(folder, name) for folder in folders])
+        self._keep(build_text(self.setting), [os.path.join(folder, name) for folder in folders])
         self.failed += [f"{task}: no part has it" for task in self.tasks if task not in self.done]
 
     def _keep(self, build: str, bases: Sequence[str]) -> None:
-        """Takes over what records say of the tasks, of files and solvers as they are now."""
+        """Takes over the recorded tasks whose files and solvers are unchanged."""
         sums, known = Sums(""), set(self.tasks)
         for found in (one for base in bases for one in _recorded(base, build)):
             try:
@@ -97,9 +97,9 @@ class Bench:
                 self.done[task] = Done(task, found["sums"], cells)
         self.kept = len(self.done)
 
-    def _clear_left(self) -> None:
-        """Takes away what a bench that was killed has left, unless other parts may run."""
-        if self.part.is_whole:
+    def _clear_leftovers(self) -> None:
+        """Removes what a killed bench has left, unless other parts may run."""
+        if self.part.is_complete:
             above, name = os.path.split(self.setting.base)
             for left in glob.glob(os.path.join(glob.escape(above),
                                                f".{glob.escape(name)}{RUNNING}*")):
@@ -126,12 +126,12 @@ class Bench:
                     break
 
     @property
-    def is_whole(self) -> bool:
+    def is_complete(self) -> bool:
         return not self.failed and len(self.done) == len(self.tasks)
 
     def write(self, ratio: float) -> Any:
-        """Writes the table, and the profiles, of what is done; returns the table. They replace
-        those of the base, or none is replaced."""
+        """Writes the table and the profiles of the finished runs; returns the table. They replace
+        the base's files together, or not at all."""
         from pit_tools.benches.profile_picture import profile_picture
         from pit_tools.files.parquet import bytes_of
         from pit_tools.surveys.picture_files import write_picture
@@ -161,7 +161,7 @@ def _succeeded(found: Any) -> bool:
 
 
 def _recorded(base: str, build: str) -> Iterator[dict[str, Any]]:
-    """The lines of all records of a base, those of the record written last at the end.
+    """Returns the lines of all records of a base, the record written last at the end.
 
     Raises UserError if one is of another setting."""
     # Others of these names, as a part's that is being written, may be gone at any time.
@@ -170,7 +170,7 @@ def _recorded(base: str, build: str) -> Iterator[dict[str, Any]]:
     for path in sorted(paths, key=os.path.getmtime):
         found = build_of(path)
         if found is not None and found != build:
-            raise UserError(f"{path}: it is of other limits, another problem or another tool than "
-                            "this bench: give the same, or run without --continue, and all anew")
+            raise UserError(f"{path}: its limits, problem or tool differ from this bench: give the "
+                            "same, or omit --continue to run all again")
         if found is not None:
             yield from lines_of(path)

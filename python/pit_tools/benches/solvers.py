@@ -15,8 +15,8 @@ from pit_tools.errors import UserError, quoted
 from pit_tools.files.records import sum_of
 from pit_tools.instances.files import TEXTS
 
-#: Places of a command: files of the instance; programs that are written for it; what the solver
-#: writes, a schedule or values of the program's variables; and words.
+#: Placeholders of a command: files of the instance; programs that are written for it; the solver's
+#: output, a schedule or values of the program's variables; and texts.
 FILES = (*TEXTS, "thin", "plan")
 PROGRAMS = {"lp": False, "lp-by-period": True}
 WRITTEN = ("out", "solution")
@@ -31,7 +31,7 @@ MOST = 1 << 16
 
 @dataclass(frozen=True)
 class Solver:
-    """A solver's name, the words of its command, or its one text for a shell, and the sums of the
+    """A solver's name, the arguments of its command, or one text for a shell, and the sums of the
     files among them."""
 
     name: str
@@ -50,7 +50,7 @@ class Solver:
         return hashlib.sha256(json.dumps(asdict(self)).encode()).hexdigest()
 
     def filled(self, values: dict[str, str]) -> list[str]:
-        """The words of the command with these values in its places."""
+        """Returns the arguments of the command with these values in its placeholders."""
         if self.by_shell:
             values = {place: shlex.quote(value) for place, value in values.items()}
             return ["/bin/sh", "-c", _filled(self.command[0], values)]
@@ -58,15 +58,15 @@ class Solver:
 
 
 def _places(word: str) -> list[str]:
-    """The places in a word. Raises UserError for one that is unknown."""
+    """Returns the placeholders in an argument. Raises UserError for an unknown one."""
     try:
         parts = list(Formatter().parse(word))
     except ValueError as error:
-        raise UserError(f"--solver: {quoted(word)}: {error}: a brace itself is written twice") \
+        raise UserError(f"--solver: {quoted(word)}: {error}: write a literal brace twice") \
             from None
     for _, place, form, conversion in parts:
         if place is not None and (place not in PLACES or form or conversion):
-            raise UserError(f"--solver: {{{place}}} is no place of a command: there are "
+            raise UserError(f"--solver: {{{place}}} is not a placeholder of a command: there are "
                             f"{', '.join('{' + one + '}' for one in PLACES)}")
     return [place for _, place, _, _ in parts if place is not None]
 
@@ -77,24 +77,24 @@ def _filled(word: str, values: dict[str, str]) -> str:
 
 
 def _judge_quotes(solver: Solver) -> None:
-    """Raises UserError if a place stands within quotes of the shell. Its value has quotes of
-    its own if it needs some, which would end these, or be a part of the name of a file."""
+    """Raises UserError if a placeholder is within quotes of the shell. Its value gets its own
+    quotes if it needs some, which would end these, or become part of the name of a file."""
     [text] = solver.command
     for place in sorted(solver.places):
         values = {one: "\1 \1" if one == place else "x" for one in solver.places}
         words = shlex.split(solver.filled(values)[-1])
         found = sum(len(re.findall("(?<!')\1 \1", word)) for word in words)
         if found != _places(text).count(place):
-            raise UserError(f"--solver: {{{place}}} stands within quotes: write it without, since "
-                            "--shell quotes what it stands for")
+            raise UserError(f"--solver: {{{place}}} is within quotes: write it without, since "
+                            "--shell quotes its value")
 
 
 def read_solver(text: str, by_shell: bool = False) -> Solver:
-    """A solver by `NAME=COMMAND`, or by its command alone, whose program is its name then. Words
-    are split as a shell does; a shell runs the command only with `by_shell`.
+    """Returns a solver from `NAME=COMMAND`, or from its command only, whose program is then its
+    name. Arguments are split as by a shell; a shell runs the command only with `by_shell`.
 
-    Raises UserError if a place is unknown, or for a shell within quotes, nothing would be written,
-    or its program is not there.
+    Raises UserError if a placeholder is unknown, or for a shell within quotes, if nothing would be
+    written, or if its program is missing.
     """
     if len(text) > MOST:
         raise UserError(f"--solver: the command has more than {MOST:,} characters")
@@ -115,7 +115,7 @@ def read_solver(text: str, by_shell: bool = False) -> Solver:
         _judge_quotes(solver)
     program = shutil.which(words[0])
     if program is None and not by_shell:
-        raise UserError(f"--solver: no program `{words[0]}` is there")
+        raise UserError(f"--solver: the program `{words[0]}` is missing")
     if program and not by_shell:
         solver = Solver(solver.name, (os.path.abspath(program), *words[1:]), by_shell, ())
     files = [word for word in dict.fromkeys([program or "", *words[1:]]) if os.path.isfile(word)]
@@ -131,6 +131,6 @@ def read_solvers(texts: Sequence[str], by_shell: bool = False) -> tuple[Solver, 
     names = [solver.name for solver in solvers]
     for name in names:
         if names.count(name) > 1:
-            raise UserError(f"--solver: two solvers are named `{name}`: give names, as "
+            raise UserError(f"--solver: two solvers have the name `{name}`: give names, as "
                             f"'{name}-2=COMMAND'")
     return solvers

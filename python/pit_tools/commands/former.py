@@ -1,5 +1,5 @@
-"""Names of commands and options that the version before had. They work until the next version, and
-one line on standard error says what to write."""
+"""Names of commands and options of the previous version. They work until the next version, and one
+line on standard error names the replacement."""
 from __future__ import annotations
 
 import os
@@ -11,22 +11,22 @@ from pit_tools.errors import UserError, quoted
 
 
 class Former(NamedTuple):
-    """What is written in place of an option: words, and the ending that its value must have; a
-    folder gets its slash. With `other` as its ending the value would mean another kind of file."""
+    """The replacement of an option: arguments, and the ending that its value must have; a folder
+    gets its slash. With `other` as its ending the value would mean another kind of file."""
 
     words: str
     ending: str = ""
     other: str = ""
 
     def of(self, option: str, value: str) -> list[str]:
-        """The words in place of an option with its value."""
+        """Returns the arguments that replace the option with its value."""
         if self.ending == "/" and not value.endswith("/"):
             value += "/"
         if not value.lower().endswith(self.ending):
             raise UserError(f"{option}: write `{self.words} FILE{self.ending}`: {quoted(value)} "
                             f"does not end with {self.ending}")
         if self.other and value.lower().endswith(self.other):
-            raise UserError(f"{option}: it is `{self.words}` now, which takes {quoted(value)} for "
+            raise UserError(f"{option}: it is now `{self.words}`, which treats {quoted(value)} as "
                             f"a file of another kind: give a base without {self.other}")
         return [*self.words.split(), value]
 
@@ -51,7 +51,7 @@ OPTIONS = {
 #: Former options without a value.
 FLAGS = {"minelib": {"--immediate": "--fewer-arcs"}}
 
-#: Former commands, with the words in place of each.
+#: Former commands, with their replacements.
 COMMANDS = {"dimacs": "lp --dimacs --all-arcs", "section": "survey", "slopes": "plan --walls",
             "sample-export": "deposit --export", "texts": "compile --sections - --out"}
 
@@ -63,7 +63,7 @@ def renewed(words: Sequence[str]) -> list[str]:
     if words[0] == "python":
         own = os.path.dirname(os.path.dirname(os.path.dirname(os.path.abspath(__file__))))
         line = shlex.join(["env", f"PYTHONPATH={own}", sys.executable, *words[1:]])
-        raise UserError(f"`python` is no command any more: write `{line}`")
+        raise UserError(f"`python` is no longer a command: write `{line}`")
     if words[0] == "read" and len({"--immediate", "--write", "--arrays"} & {*words}) > 1 \
             and "--immediate" in words:
         raise UserError("`--immediate` is `--fewer-arcs --out BASE` now: run it by itself")
@@ -72,13 +72,14 @@ def renewed(words: Sequence[str]) -> list[str]:
         found = ["by-zone", *found[2:], "--out", found[1]]
     found[:1] = COMMANDS.get(found[0], found[0]).split()
     if found != list(words):
-        print(f"pit-tools: names of the last version: write `pit-tools {shlex.join(found)}`",
+        print("pit-tools: these names are of the previous version: write `pit-tools "
+              f"{shlex.join(found)}`",
               file=sys.stderr)
     return found
 
 
 def _with_options(words: Sequence[str]) -> list[str]:
-    """The words with the options of today."""
+    """Returns the arguments with today's options."""
     options, flags = OPTIONS.get(words[0], {}), FLAGS.get(words[0], {})
     found, rest = [words[0]], iter(words[1:])
     for word in rest:
@@ -90,8 +91,8 @@ def _with_options(words: Sequence[str]) -> list[str]:
         if not has_value:
             given = next(rest, None)
         if given is None:
-            raise UserError(f"{option}: its value is missing, and it is `{options[option].words}` "
-                            "now")
+            raise UserError(f"{option}: its value is missing; the option is now "
+                            f"`{options[option].words}`")
         new = options[option].of(option, given)
         found += [new[0], f"{new[1]}={new[2]}"] if words[0] == "section" else new
     return found

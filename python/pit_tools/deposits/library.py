@@ -1,8 +1,8 @@
 """A small library: ten deposits by seed, with the sums of their instances, pit values, bounds, and
-the best schedules that are known.
+the best known schedules.
 
-The deposits follow from their seeds, and their instances from these; the tables and the schedules
-stand in the folder `data` beside this module, or in a copy of it: TABLE has values and
+The deposits follow from their seeds, and the instances from the deposits; the tables and the
+schedules are in the folder `data` next to this module, or in a copy of it: TABLE has values and
 bounds, FOUND when each schedule was found, by whom and how, SUMS the sums of the instances.
 """
 from __future__ import annotations
@@ -43,13 +43,13 @@ COLUMNS = ("name", "seed", "shape", "size", "blocks", "arcs", "pit_value", "cpit
 #: how.
 FOUND_COLUMNS = ("name", "kind", "date", "by", "how")
 
-#: What stands between the columns of the tables.
+#: The separator between the columns of the tables.
 SEPARATORS = {"TABLE": " ", "FOUND": ","}
 
 
 @dataclass(frozen=True)
 class Known:
-    """What the library's table says of a deposit; `sums` are of the texts of its instance."""
+    """The values of the library's table for a deposit; `sums` has those of its instance's files."""
 
     row: dict[str, str]
     sums: dict[str, File]
@@ -72,17 +72,17 @@ def sums_of(folder: str, name: str) -> dict[str, File]:
 
 
 def table_of(folder: str, name: str) -> pd.DataFrame:
-    """TABLE or FOUND of a library, as words. Raises UserError if it is not there."""
+    """Returns TABLE or FOUND of a library, as texts. Raises UserError if it is missing."""
     path = os.path.join(folder or FOLDER, name)
     if status_of(path) is None:
-        raise UserError(f"{folder}: no library, since it has no {name}: `library --out` makes "
+        raise UserError(f"{folder}: not a library, since it has no {name}: `library --out` makes "
                         "one")
     with inputs.looking():
         return _table(path, name)
 
 
 def _table(path: str, name: str) -> pd.DataFrame:
-    """TABLE or FOUND of a path. Raises UserError if it is none."""
+    """Returns TABLE or FOUND of a path. Raises UserError for any other file."""
     columns = {"TABLE": COLUMNS, "FOUND": FOUND_COLUMNS}[name]
     try:
         if os.path.getsize(path) > MOST_JSON:
@@ -93,13 +93,13 @@ def _table(path: str, name: str) -> pd.DataFrame:
         if name == "TABLE":
             table[list(COLUMNS[6:])].astype(float)
     except ValueError as error:
-        raise UserError(f"{path}: it is no {name} of a library: "
+        raise UserError(f"{path}: not the {name} of a library: "
                         f"{' '.join(str(error).split())}") from None
     return table
 
 
 def known(name: str, folder: str = "") -> Known:
-    """What the library says of a deposit. Raises UserError if it has none of the name."""
+    """Returns the library's values for a deposit. Raises UserError if it has none of the name."""
     table = table_of(folder, "TABLE")
     rows = table[table["name"] == name]
     if len(rows) != 1:
@@ -108,8 +108,7 @@ def known(name: str, folder: str = "") -> Known:
     with inputs.looking():
         record = read_record(path)
     if record is None:
-        raise UserError(f"{path}: it is not there, or no record of sums: `library --out` makes "
-                        "one")
+        raise UserError(f"{path}: missing, or not a record of sums: `library --out` makes one")
     return Known(rows.iloc[0].to_dict(), {file.name: file for file in record.outputs
                                           if file.name.rpartition(".")[0] == name})
 
@@ -118,8 +117,8 @@ def schedule_path(name: str, kind: str, folder: str = "") -> str:
     return os.path.join(folder or FOLDER, f"{name}.{kind.lower()}-schedule")
 
 
-def faults_of(deposit: Deposit, folder: str, of: str = "") -> Iterator[str]:
-    """Makes a deposit of a library in a folder, and tells what is not as its tables say."""
+def errors_of(deposit: Deposit, folder: str, of: str = "") -> Iterator[str]:
+    """Makes a deposit of a library in a folder, and reports what differs from its tables."""
     mine, said = make(deposit, folder), known(deposit.name, of)
     found_by = table_of(of, "FOUND")
     for name, found in sums_of(folder, deposit.name).items():
@@ -129,17 +128,17 @@ def faults_of(deposit: Deposit, folder: str, of: str = "") -> Iterator[str]:
     in_pit = ultimate_pit(values, mine.precedence)
     pit = f"{cents(values)[in_pit].sum() / 100:.2f}"
     if said.row["pit_value"] != pit:
-        yield f"{deposit.name}: the pit is worth {pit}, and the table says {said.row['pit_value']}"
+        yield f"{deposit.name}: the pit is worth {pit}, but the table has {said.row['pit_value']}"
     for kind in ("cpit", "pcpsp"):
         problem = mine.problem(kind)
         path = schedule_path(deposit.name, kind, of)
         if ((found_by["name"] == deposit.name) & (found_by["kind"] == kind)).sum() != 1:
-            yield f"{deposit.name} {kind}: FOUND has not one line on it"
+            yield f"{deposit.name} {kind}: FOUND must have one line for it"
         checked = check(read_schedule(path, problem), problem, mine.precedence)
         if not checked.holds:
             yield f"{os.path.basename(path)}: {checked.broken[0]}"
         if f"{checked.worth:.2f}" != said.row[f"{kind}_best"]:
-            yield (f"{os.path.basename(path)} is worth {checked.worth:.2f}, and the table says "
+            yield (f"{os.path.basename(path)} is worth {checked.worth:.2f}, but the table has "
                    f"{said.row[f'{kind}_best']}")
         if checked.worth > float(said.row[f"{kind}_bound"]) + 0.01:
             yield f"{os.path.basename(path)} is worth more than its bound"

@@ -1,4 +1,4 @@
-"""An export of zone files, with what the exports of packages mostly have."""
+"""An export of zone files, with what most packages' exports contain."""
 from __future__ import annotations
 
 import os
@@ -11,23 +11,23 @@ import pandas as pd
 from pit_tools.errors import UserError
 from pit_tools.plans.zone_files import read_zone_files
 
-# Below this grade, in millionths of g/t, the sample has none.
+# Below this grade, in millionths of g/t, the sample has no grade.
 UNKNOWN = 2000
 
-# Places of the box at the most, each of which has a line.
+# The largest number of positions of the box, each of which has a line.
 MOST_PLACES = 20_000_000
 
 
 def zone_names(paths: Sequence[str]) -> list[str]:
-    """The names of zone files without their ending and what all of them begin with, up to the last
+    """Returns the names of zone files without their ending and their common prefix, up to the last
     hyphen."""
     names = [os.path.splitext(os.path.basename(path))[0] for path in paths]
-    front = os.path.commonprefix(names) if len(names) > 1 else ""
-    return [name[front.rfind("-") + 1:] for name in names]
+    prefix = os.path.commonprefix(names) if len(names) > 1 else ""
+    return [name[prefix.rfind("-") + 1:] for name in names]
 
 
 def sample_export(paths: Sequence[str]) -> Iterator[str]:
-    """The lines of the export: x runs first, then y, then z, over the box of the blocks."""
+    """Yields the lines of the export: x runs first, then y, then z, over the box of the blocks."""
     rows = read_zone_files(paths)
     if rows.empty:
         raise UserError(f"there is no block in {', '.join(paths)}")
@@ -38,9 +38,9 @@ def sample_export(paths: Sequence[str]) -> Iterator[str]:
         step = int(np.gcd.reduce(np.diff(values))) if len(values) > 1 else 1
         ranges.append(range(int(values[0]), int(values[-1]) + 1, step))
     if prod(map(len, ranges)) > MOST_PLACES:
-        told = " x ".join(f"{len(axis):,}" for axis in ranges)
-        raise UserError(f"the blocks lie in a box of {told} places, and {MOST_PLACES:,} is the "
-                        "most: do two groups of them lie far apart?")
+        message = " x ".join(f"{len(axis):,}" for axis in ranges)
+        raise UserError(f"the blocks are in a box of {message} positions, more than "
+                        f"{MOST_PLACES:,}: are two groups of them far apart?")
     box = pd.MultiIndex.from_product(ranges[::-1], names=list("zyx")).to_frame(index=False)
     places = box.merge(rows, "left", ["x", "y", "z"])
     top = rows.groupby(["x", "y"])["z"].max().rename("top").reset_index()

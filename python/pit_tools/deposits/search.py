@@ -39,7 +39,7 @@ class Finding:
     how: str
 
     def given(self) -> Schedule:
-        """Its schedule. Raises UserError if there is none."""
+        """Returns its schedule. Raises UserError if there is none."""
         if self.schedule is None:
             raise UserError(f"{self.deposit.name} {self.kind}: no schedule was found by {self.how}")
         return self.schedule
@@ -52,35 +52,35 @@ class Finding:
 
 
 def named(text: str) -> tuple[Deposit, str]:
-    """The deposit and the kind that a word as lens1.cpit means, or a file lens1.cpit-schedule.
+    """Returns the deposit and the kind of a name as lens1.cpit, or of a file lens1.cpit-schedule.
 
     Raises UserError if the library has none of this name."""
     found = NAMED.fullmatch(os.path.basename(text))
     for deposit in library.DEPOSITS:
         if found and deposit.name == found[1]:
             return deposit, found[2]
-    raise UserError(f"`{text}` names no schedule of the library, as lens1.cpit-schedule")
+    raise UserError(f"`{text}` is not a schedule of the library, as lens1.cpit-schedule")
 
 
 def instance_of(deposit: Deposit, folder: str) -> Instance:
-    """The instance of a deposit of a library. Raises UserError if this tool makes it
-    otherwise."""
+    """Returns the instance of a deposit of a library. Raises UserError if this tool makes another
+    one."""
     with tempfile.TemporaryDirectory() as made:
         mine = library.make(deposit, made)
         if library.sums_of(made, deposit.name) != library.known(deposit.name, folder).sums:
-            raise UserError(f"{deposit.name}: its instance has other sums than the library says")
+            raise UserError(f"{deposit.name}: its instance has other sums than the library lists")
     return mine
 
 
 def at_best_destinations(schedule: Schedule, problem: Problem) -> Schedule:
-    """A schedule of a CPIT as one of the PCPSP: each block goes where it is worth most."""
+    """Returns a schedule of a CPIT as one of the PCPSP: each block goes where it is worth most."""
     best = problem.values.argmax(axis=1)
     return replace(schedule, destination=best[schedule.block])
 
 
 def sought(mine: Instance, deposit: Deposit, kind: str, seconds: float,
            starts: Sequence[Schedule]) -> Finding:
-    """What a search of so many seconds finds, from shells and from these."""
+    """Returns the best finding of a search of `seconds`, from shells and from these."""
     blocks = present(mine.blocks, "block file")
     found = Search(mine.problem(kind), blocks, fewer_arcs(mine.precedence), seconds).run(*starts)
     return Finding(deposit, kind, found.schedule, found.bound, f"pit-tools {VERSION}",
@@ -91,9 +91,9 @@ def sought(mine: Instance, deposit: Deposit, kind: str, seconds: float,
 
 
 def handed_in(path: str, by: str, how: str, folder: str) -> str:
-    """Takes a schedule's file into a library, if it is better; returns what it did.
+    """Puts a schedule's file into a library, if it is better; returns what it did.
 
-    Raises UserError if it does not hold, or is worth more than its bound."""
+    Raises UserError if it is infeasible, or is worth more than its bound."""
     deposit, kind = named(path)
     mine = instance_of(deposit, folder)
     schedule = read_schedule(path, mine.problem(kind))
@@ -101,8 +101,8 @@ def handed_in(path: str, by: str, how: str, folder: str) -> str:
 
 
 def search_on(word: str, seconds: float, folder: str) -> str:
-    """Seeks a better schedule and a lower bound than a library has, and takes them; returns
-    what it did. A PCPSP begins with the schedule of the CPIT too."""
+    """Searches for a better schedule and a lower bound than a library has, and puts them in;
+    returns what it did. A PCPSP also begins with the schedule of the CPIT."""
     deposit, kind = named(word)
     mine = instance_of(deposit, folder)
     problem = mine.problem(kind)
@@ -115,8 +115,8 @@ def search_on(word: str, seconds: float, folder: str) -> str:
 
 
 def taken(found: Finding, mine: Instance, folder: str) -> str:
-    """Takes what is better of a finding into a library, the schedule, its bound or both;
-    returns what it did."""
+    """Puts the better parts of a finding into a library, the schedule, its bound or both; returns
+    what it did."""
     name, kind = found.deposit.name, found.kind
     row = library.known(name, folder).row
     best, bound = float(row[f"{kind}_best"]), float(row[f"{kind}_bound"])
@@ -135,15 +135,15 @@ def taken(found: Finding, mine: Instance, folder: str) -> str:
 
 
 def _worth(found: Finding, schedule: Schedule, mine: Instance, bound: float) -> float:
-    """What a schedule is worth. Raises UserError if it cannot be."""
-    told = check(schedule, mine.problem(found.kind), mine.precedence)
-    if not told.holds:
-        raise UserError(f"{found.deposit.name} {found.kind}: the schedule does not hold: "
-                        f"{told.broken[0]}")
-    if told.worth > bound + STEP:
-        raise UserError(f"{found.deposit.name} {found.kind}: {told.worth:.2f} is above the bound "
-                        f"{bound:.2f}, so one of them is wrong")
-    return told.worth
+    """Returns what a schedule is worth. Raises UserError if that is not possible."""
+    checked = check(schedule, mine.problem(found.kind), mine.precedence)
+    if not checked.holds:
+        raise UserError(f"{found.deposit.name} {found.kind}: the schedule is infeasible: "
+                        f"{checked.broken[0]}")
+    if checked.worth > bound + STEP:
+        raise UserError(f"{found.deposit.name} {found.kind}: {checked.worth:.2f} is above the "
+                        f"bound {bound:.2f}, so one of them is wrong")
+    return checked.worth
 
 
 def _change(folder: str, name: str, keys: Sequence[str], cells: dict[str, str]) -> None:
@@ -160,11 +160,11 @@ def write_table(table: pd.DataFrame, folder: str, name: str) -> None:
         table.to_csv(file, sep=library.SEPARATORS[name], index=False, lineterminator="\n")
 
 
-# Made anew
+# Made from the start
 
 
 def build(folder: str, seconds: float) -> None:
-    """Makes the library anew: tables, sums and schedules."""
+    """Makes the library from the start: tables, sums and schedules."""
     outputs.folder(folder)
     rows, lines = [], []
     sums: dict[str, File] = {}

@@ -19,8 +19,8 @@ SHAPES = ("lens", "pipe", "vein")
 #: The zones in the order of the plan's records.
 ZONES = ("oxide", "west", "east")
 
-#: The numbers of blocks of the deposit along x, y and z where no size is given. Places in a deposit
-#: of another size are those of this one, scaled.
+#: The numbers of blocks of the deposit along x, y and z if no size is given. Positions in a deposit
+#: of another size are scaled from this one.
 SIZE = (24, 18, 12)
 
 MOST_SEED = 1_000_000
@@ -86,11 +86,11 @@ class Ore:
 
 @dataclass(frozen=True)
 class Deposit:
-    """A deposit. `size` is how many blocks of 20 x 20 x 10 m it has along x, y and z; a seed, 1 to
-    a million, moves the ore and draws its width and grade, and with none the deposit is always the
+    """A deposit. `size` has its numbers of blocks of 20 x 20 x 10 m along x, y and z; a seed, 1 to
+    a million, shifts the ore and sets its width and grade; without a seed the deposit is always the
     same.
 
-    Raises UserError if a name, a shape, a seed or a size is none."""
+    Raises UserError if a name, a shape, a seed or a size is invalid."""
 
     name: str = "deposit"
     seed: Optional[int] = None
@@ -99,16 +99,16 @@ class Deposit:
 
     def __post_init__(self) -> None:
         if self.shape not in SHAPES:
-            raise UserError(f"no shape `{self.shape}`: {', '.join(SHAPES)}")
+            raise UserError(f"unknown shape `{self.shape}`: give {', '.join(SHAPES)}")
         if self.seed is not None and not 1 <= self.seed <= MOST_SEED:
-            raise UserError(f"a seed is a whole number from 1 to {MOST_SEED}")
+            raise UserError(f"a seed is an integer from 1 to {MOST_SEED}")
         if len(self.size) != 3 or min(self.size) < 1:
             raise UserError("a size is three numbers of blocks, as 24,18,12")
         if max(self.size) > MOST_HEIGHT or prod(self.size) > MOST_BLOCKS:
-            raise UserError(f"a size is up to {MOST_HEIGHT:,} blocks along an axis, and "
+            raise UserError(f"a size is at most {MOST_HEIGHT:,} blocks along an axis, and "
                             f"{MOST_BLOCKS:,} in all")
         if not NAME.fullmatch(self.name):
-            raise UserError(f"no name `{self.name[:80]}`: it has {WHAT_A_NAME_IS}")
+            raise UserError(f"invalid name `{self.name[:80]}`: it must have {WHAT_A_NAME_IS}")
 
     def _share_of(self, tonnes: int) -> int:
         """The most tonnes of a resource, by how many blocks there are."""

@@ -1,8 +1,7 @@
-"""The spelling of numbers in an export: decimal and thousands marks, what means a missing value,
+"""The form of numbers in an export: decimal and thousands marks, what means a missing value,
 negatives in parentheses.
 
-What a file's marks are is found in its first rows, where these can only mean one thing, or is
-named."""
+The marks of a file are found in its first rows, if these are unambiguous, or given."""
 from __future__ import annotations
 
 import re
@@ -15,23 +14,24 @@ import numpy as np
 import pandas as pd
 
 from pit_tools.errors import UserError
-from pit_tools.texts.decimals import (LONGEST, MOST_EXACT, fault_of, floats_of, is_decimal,
+from pit_tools.texts.decimals import (LONGEST, MOST_EXACT, error_of, floats_of, is_decimal,
                                       parts_of, plain as plain_decimal)
 
-# Texts that mostly say that nothing is known, in any case.
+# Texts that usually mean a missing value, in any case.
 MISSING = ("", "na", "n/a", "nan", "null", "nil", "none", "-", "--", "---", "*", "**", "?", ".",
            "#n/a", "#na", "missing", "absent", "unknown", "void", "no data", "nodata", "blank",
            "1.#qnan", "-1.#ind", "1.#ind", "-nan")
 
-# What may stand between thousands and is no decimal mark: blanks of every kind, and apostrophes.
+# Marks that may separate thousands and are not decimal marks: blanks of every kind, and
+# apostrophes.
 BLANKS = " \u00a0\u2007\u2009\u202f"
 APOSTROPHES = "'’"
 
 
 @dataclass
 class Marks:
-    """How the numbers of a file are spelled. `decimal` is a point or a comma, `thousands` what
-    stands between thousands beside blanks and apostrophes; `missing` are texts without case."""
+    """The form of a file's numbers. `decimal` is a point or a comma, `thousands` the mark between
+    thousands besides blanks and apostrophes; `missing` has texts without case."""
 
     decimal: str = "."
     thousands: str = ""
@@ -41,8 +41,8 @@ class Marks:
     unclear_point: str = ""
 
     def plain(self, cell: str, as_percent: bool = False) -> Optional[str]:
-        """A cell as a plain decimal; an empty text where nothing is known; None for no number.
-        `1.2%` is 0.012, or 1.2 as percent."""
+        """Returns a cell as a plain decimal; an empty text if the value is missing; None if it is
+        not a number. `1.2%` is 0.012, or 1.2 as percent."""
         text = cell.strip()
         if len(text) > LONGEST:
             return None
@@ -68,14 +68,15 @@ class Marks:
                 return None
             text = text.replace(",", ".")
         text = re.sub(r"(?<=[\d.])[dD](?=[-+]?\d)", "E", text)
-        return None if fault_of(text) else text
+        return None if error_of(text) else text
 
-    def spelled(self, cells: pd.Series, as_percent: bool = False) -> Spelled:
-        """Cells as plain decimals. Most are plain already, and are taken as they are; each odd
-        spelling is looked at once, and each 0 and vast number, which may be another one."""
+    def encoded(self, cells: pd.Series, as_percent: bool = False) -> Encoded:
+        """Returns cells as plain decimals. Most are plain already, and are used unchanged; each
+        other form is read once, and so is each 0 and very large number, which may stand for another
+        one."""
         texts, count = cells, len(cells)
         if self.decimal == ",":
-            # A point is none of these numbers' marks, or stands between thousands.
+            # A point is not one of these numbers' marks, or separates thousands.
             texts = cells.str.replace(",", ".",
                                       regex=False).where(~cells.str.contains(".", regex=False), "")
         floats = floats_of(texts)
@@ -94,14 +95,13 @@ class Marks:
             missing |= np.isin(floats, self.missing_numbers)
         wrong |= ~np.isfinite(floats) & ~missing
         floats[missing | wrong] = np.nan
-        return Spelled(texts, floats, missing, wrong, percent & ~missing & ~wrong)
+        return Encoded(texts, floats, missing, wrong, percent & ~missing & ~wrong)
 
 
 @dataclass
-class Spelled:
-    """Cells of a column: plain decimals, with a point; their floats, NaN if there is none;
-    where they say that nothing is known; where they are no number; and where they have a sign
-    of percent."""
+class Encoded:
+    """Cells of a column: plain decimals, with a point; their floats, NaN for a missing one; and
+    masks of the missing cells, of those that are not numbers, and of those with a percent sign."""
 
     texts: pd.Series
     floats: np.ndarray
@@ -110,23 +110,24 @@ class Spelled:
     percent: np.ndarray
 
     def parts(self, places: int) -> np.ndarray:
-        """The decimals as integers of 10**-places, rounded as decimals; 0 if there is none."""
+        """Returns the decimals as integers of 10**-places, rounded as decimals; 0 for a missing
+        one."""
         return parts_of(self.texts, places, self.floats)[0]
 
 
 def marks_of(columns: Iterable[pd.Series], *, decimal: str = "", thousands: str = "",
              missing: Sequence[str] = ()) -> Marks:
-    """The marks of a file, by cells of its columns of numbers; those that are named are taken.
+    """Returns the marks of a file, by cells of its columns of numbers; given marks are used.
 
-    Raises UserError if a mark may be read in two ways, or cells contradict one another."""
+    Raises UserError if a mark has two possible meanings, or cells contradict each other."""
     columns = list(columns)
     known = frozenset([*MISSING, *(text.strip().casefold() for text in missing)])
     numbers = tuple(float(text) for text in missing if is_decimal(text.strip()))
-    cells = [text for column in columns for text in _telling(column) if "." in text or "," in text]
+    cells = [text for column in columns for text in _message(column) if "." in text or "," in text]
     cells = [text for text in cells if text.casefold() not in known
              and re.fullmatch(rf"[-+(]?[\d.,{BLANKS}{APOSTROPHES}]+[-)]?", text)]
     if decimal not in ("", ".", ","):
-        raise UserError(f"--decimal is a point or a comma, and not `{decimal}`")
+        raise UserError(f"--decimal must be a point or a comma, not `{decimal}`")
     unclear = ""
     if not decimal:
         decimal = _decimal_of(cells, thousands)
@@ -139,7 +140,7 @@ def marks_of(columns: Iterable[pd.Series], *, decimal: str = "", thousands: str 
     return Marks(decimal, thousands.replace("blank", " "), known, numbers, unclear_point=unclear)
 
 
-def _telling(column: pd.Series) -> list[str]:
+def _message(column: pd.Series) -> list[str]:
     """Cells that show a column's marks: some of its first ones, and all that are no plain
     number."""
     odd = column[pd.to_numeric(column, errors="coerce").isna()]
@@ -148,37 +149,37 @@ def _telling(column: pd.Series) -> list[str]:
 
 def _decimal_of(cells: Sequence[str], thousands: str) -> str:
     """The decimal mark that these cells can only have, or an empty text."""
-    says: dict[str, str] = {}
+    found_marks: dict[str, str] = {}
     unclear = ""
     for text in cells:
         digits = text.strip("()+- ")
         points, commas = digits.count("."), digits.count(",")
         if points and commas:
-            says.setdefault("," if digits.rfind(",") > digits.rfind(".") else ".", text)
+            found_marks.setdefault("," if digits.rfind(",") > digits.rfind(".") else ".", text)
         elif points > 1 or commas > 1:
             if re.fullmatch(r"\d{1,3}([.,]\d{3})+", digits):
-                says.setdefault("," if points else ".", text)
+                found_marks.setdefault("," if points else ".", text)
         else:
             mark = "." if points else ","
             whole, _, rest = digits.partition(mark)
             if len(rest) != 3 or whole in ("", "0") or len(whole) > 3 or whole.startswith("0"):
-                says.setdefault(mark, text)
+                found_marks.setdefault(mark, text)
             elif mark == ",":
                 unclear = unclear or text
     if thousands and thousands in ".,":
         return "," if thousands == "." else "."
-    if len(says) > 1:
-        raise UserError(f"`{says['.']}` has a decimal point, and `{says[',']}` a decimal comma: "
-                        "name one by --decimal, and the other by --thousands")
-    if not says and unclear:
-        raise UserError(f"`{unclear}` is a number with a decimal comma, or one of thousands: say "
-                        "which by --decimal , or --thousands ,")
-    return next(iter(says), "")
+    if len(found_marks) > 1:
+        raise UserError(f"`{found_marks['.']}` has a decimal point, but `{found_marks[',']}` a "
+                        "decimal comma: give one by --decimal, and the other by --thousands")
+    if not found_marks and unclear:
+        raise UserError(f"`{unclear}` is a number with a decimal comma, or with a comma between "
+                        "thousands: choose by --decimal , or --thousands ,")
+    return next(iter(found_marks), "")
 
 
 def _judge_points(columns: Sequence[pd.Series], known: frozenset[str]) -> None:
-    """Stops where a column has integers up to 999, and points before three digits in all
-    others: so thousands are written."""
+    """Stops if a column has integers up to 999, and points before three digits in all others: then
+    these points separate thousands."""
     for column in columns:
         cells = [text.strip() for text in column.unique() if text.strip().casefold() not in known]
         with_point = [text for text in cells if "." in text]
@@ -186,6 +187,6 @@ def _judge_points(columns: Sequence[pd.Series], known: frozenset[str]) -> None:
         if (with_point and whole
                 and all(re.fullmatch(r"[-+]?[1-9]\d{0,2}(\.\d{3})+", text) for text in with_point)
                 and all(re.fullmatch(r"[-+]?\d{1,3}", text) for text in whole)):
-            raise UserError(f"`{with_point[0]}` has a decimal point, or one between thousands, "
-                            f"since `{whole[0]}` beside it has none: say which by --decimal . or "
+            raise UserError(f"`{with_point[0]}` has a decimal point, or a point between thousands, "
+                            f"since `{whole[0]}` in its column has none: choose by --decimal . or "
                             "--thousands .")

@@ -7,16 +7,16 @@ import os
 from pit_tools.errors import UserError
 from pit_tools.exports.source import UNPACKERS, Source
 
-# How many bytes at the end of a file show what its last cells are like.
+# The number of bytes at the end of a file that show what its last cells are like.
 TAIL = 1 << 20
 
 
-def last_line_told(source: Source) -> list[str]:
-    """A line about the last line of a text, if it has no line end; else none.
+def last_line_warning(source: Source) -> list[str]:
+    """Returns a warning about the last line of a text, if it has no line end; otherwise none.
 
-    Raises UserError if its last cell is shorter than others can be: an empty one among others
-    that are not, fewer decimals where others have one or two numbers of them, or the beginning
-    of a text that other rows have whole."""
+    Raises UserError if its last cell is shorter than others can be: an empty one if others are not,
+    fewer decimals if others have one or two numbers of decimals, or the beginning of a text that
+    other rows have in full."""
     lines = _lines_at_end(source)
     if len(lines) < 3:
         return []
@@ -35,12 +35,12 @@ def last_line_told(source: Source) -> list[str]:
 
 
 def _lines_at_end(source: Source) -> list[str]:
-    """The last lines of a text whose last line has no end; none of another one."""
+    """Returns the last lines of a text whose last line has no end; none of another text."""
     if source.sheet is not None or not source.encoding or source.is_read_as_text:
         return []
     with open(source.path, "rb") as file:
-        front = file.read(6)
-        if any(front.startswith(mark) for mark, _ in UNPACKERS):
+        prefix = file.read(6)
+        if any(prefix.startswith(mark) for mark, _ in UNPACKERS):
             return []
         size = os.fstat(file.fileno()).st_size
         file.seek(max(0, size - TAIL))
@@ -51,15 +51,15 @@ def _lines_at_end(source: Source) -> list[str]:
 
 
 def _shorter(last: str, others: list[str]) -> str:
-    """In what a cell is shorter than others can be, or an empty text."""
+    """Returns why a cell is shorter than others can be, or an empty text."""
     if len(others) < 5 or last in others:
         return ""
     if not last:
-        return "is empty, as no other" if all(others) else ""
-    # Two numbers of decimals: those of a column, and none of a mark as -99.
+        return "is empty, unlike all others" if all(others) else ""
+    # Two numbers of decimals: those of a column, and 0 of a mark as -99.
     decimals, own = ({len(one.partition(".")[2]) for one in others}, len(last.partition(".")[2]))
     if len(decimals) < 3 and own < max(decimals) and own not in decimals:
-        return f"has {own} decimals, and others have {max(decimals)}"
+        return f"has {own} decimals, but others have {max(decimals)}"
     whole = next((one for one in others if one.startswith(last)), "")
     is_text = not any(sign.isdigit() for sign in last)
     return f"is the beginning of `{whole}` in other rows" if whole and is_text else ""

@@ -9,7 +9,7 @@ import numpy as np
 import pandas as pd
 
 from pit_tools.errors import UserError
-from pit_tools.exports.cells import Marks, Spelled
+from pit_tools.exports.cells import Marks, Encoded
 from pit_tools.exports.source import SHOWN, Source
 from pit_tools.exports.words import Columns, Measure, Table
 from pit_tools.exports.workbook import UNCOMPUTED
@@ -22,7 +22,7 @@ if TYPE_CHECKING:
 
 COORDINATES = ("x", "y", "z")
 
-# Numbers of nines alone, which often say that nothing is known.
+# Numbers of nines only, which often mean a missing value.
 NINES = [float("9" * digits) for digits in range(2, 9)]
 
 # A number of a formula that is greater than this is a mistake, in metres, tonnes or g/t, and could
@@ -31,9 +31,8 @@ MOST = 1e9
 
 
 class Measured:
-    """Some rows of an export, as texts, and the numbers that they are. What is missing, odd or
-    lacking of them is counted in `reading`; what cannot be right raises UserError, with its
-    line."""
+    """Some rows of an export, as texts, and their numbers. Missing and unusual values are counted
+    in `reading`; what cannot be right raises UserError, with its line."""
 
     def __init__(self, table: pd.DataFrame, source: Source, columns: Columns, marks: Marks,
                  reading: Reading) -> None:
@@ -42,19 +41,19 @@ class Measured:
         self.zone = np.full(len(table), -1, np.int32)
 
     def line(self, at: int, column: Optional[int] = None) -> str:
-        """Where a row of the piece, or a cell of it, stands."""
+        """Returns the position of a row of the chunk, or of a cell of it."""
         return self.source.place_of(int(self.table.index[at]), column)
 
     def values(self, formula: Formula, has_negatives: bool, as_percent: bool = False,
                counted: bool = False) -> tuple[pd.DataFrame, pd.DataFrame]:
-        """The columns of a formula by their names in code: numbers, NaN where a cell is missing,
-        and texts; and the same as they stand. Negative numbers are missing too, but where a measure
-        has such."""
-        known, standing = {}, {}
+        """Returns the columns of a formula by their names in code: numbers, NaN for a missing cell,
+        and texts; and the same unchanged. Negative numbers are missing too, except if a measure may
+        have them."""
+        known, unchanged = {}, {}
         for at in sorted(formula.numbers):
-            cells = self.marks.spelled(self.table[at], as_percent)
+            cells = self.marks.encoded(self.table[at], as_percent)
             if counted:
-                self.refuse(cells.wrong, at)
+                self.reject(cells.wrong, at)
                 self.note_percent(cells, at)
             if counted and not has_negatives:
                 self.note_nines(at, cells.floats)
@@ -62,12 +61,12 @@ class Measured:
             missing = np.isnan(numbers) if has_negatives else ~(numbers >= 0)
             if counted and not has_negatives:
                 self.count_missing(at, missing)
-            standing[column_name(at)], known[column_name(at)] = (numbers,
-                                                                 np.where(missing, np.nan, numbers))
+            unchanged[column_name(at)] = numbers
+            known[column_name(at)] = np.where(missing, np.nan, numbers)
         for at in sorted(formula.texts):
             known[column_name(at)] = self.codes_of(at)
         return (pd.DataFrame(known, index=self.table.index),
-                pd.DataFrame({**known, **standing}, index=self.table.index))
+                pd.DataFrame({**known, **unchanged}, index=self.table.index))
 
     def codes_of(self, column: int) -> pd.Series:
         """A column's texts as filters compare them."""
@@ -78,8 +77,8 @@ class Measured:
                                               set()).add(text.strip())
         return texts.map(codes)
 
-    def note_percent(self, cells: Spelled, column: int) -> None:
-        """Keeps a cell with a sign of percent. It raises UserError for a number without one in the
+    def note_percent(self, cells: Encoded, column: int) -> None:
+        """Keeps a cell with a percent sign. It raises UserError for a number without one in the
         same column."""
         if not cells.percent.any():
             return
@@ -89,37 +88,38 @@ class Measured:
         if bare.any():
             at = int(np.flatnonzero(bare)[0])
             raise UserError(f"{self.line(at, column)}: the column {name} has "
-                            f"`{shown.iloc[at].strip()}`, and others have a sign of percent, as "
+                            f"`{shown.iloc[at].strip()}`, but others have a percent sign, as "
                             f"`{with_sign}`")
         self.reading.percents.setdefault(" ".join(name.split()),
                                          f"`{with_sign}` is {self.marks.plain(with_sign)}")
 
     def floats(self, measure: Measure, what: str) -> np.ndarray:
-        """A formula's values, in its own unit, NaN where a cell is missing. Negative cells of a
-        measure are marks, as -99."""
-        known, standing = self.values(measure.formula, what in COORDINATES or what in "ijk",
-                                      measure.is_percent, counted=True)
-        values, lacks = measure.formula.summed(known, standing)
+        """Returns a formula's values, in its own unit, NaN if a cell is missing. Negative cells of
+        a measure are marks, as -99."""
+        known, unchanged = self.values(measure.formula, what in COORDINATES or what in "ijk",
+                                       measure.is_percent, counted=True)
+        values, misses = measure.formula.summed(known, unchanged)
         found = values.to_numpy(float).copy()
         if what == "grade":
-            self.note_lacking("a term is missing, and adds nothing", lacks & ~np.isnan(found))
+            self.note_missing("a term is missing, and adds nothing", misses & ~np.isnan(found))
             some = ~known[[column_name(at) for at in measure.formula.numbers]].isna().all(axis=1)
-            self.note_lacking("columns are missing, so there is no grade",
+            self.note_missing("columns are missing, so there is no grade",
                               np.isnan(found) & some.to_numpy())
         if not measure.formula.divides:
-            self.refuse_vast(np.isinf(found), what)
+            self.reject_vast(np.isinf(found), what)
         found[np.isinf(found)] = np.nan
         return found
 
-    def note_lacking(self, what: str, lacks: np.ndarray) -> None:
-        """Counts rows of which something is missing, and keeps the first line."""
-        if lacks.any():
-            count, line = self.reading.lacking.get(what, (0, ""))
-            self.reading.lacking[what] = (count + int(lacks.sum()), line or self.line(
-                int(np.flatnonzero(lacks)[0])))
+    def note_missing(self, what: str, misses: np.ndarray) -> None:
+        """Counts rows with a missing value, and keeps the first line."""
+        if misses.any():
+            count, line = self.reading.incomplete.get(what, (0, ""))
+            self.reading.incomplete[what] = (count + int(misses.sum()), line or self.line(
+                int(np.flatnonzero(misses)[0])))
 
     def note_nines(self, column: int, floats: np.ndarray) -> None:
-        """Keeps how often a column has numbers of nines alone, as 999, and its greatest other."""
+        """Keeps how often a column has numbers of nines only, as 999, and its largest other
+        number."""
         name = " ".join(self.source.names[column].split())
         is_nine = np.isin(floats, NINES)
         others = floats[~is_nine & np.isfinite(floats)]
@@ -131,13 +131,13 @@ class Measured:
             count, line = found.get(float(mark), (0, ""))
             found[float(mark)] = (count + int((floats == mark).sum()), line or self.line(at))
 
-    def refuse_vast(self, vast: np.ndarray, what: str) -> None:
+    def reject_vast(self, vast: np.ndarray, what: str) -> None:
         """Stops at the first number of a formula that is too great to be held."""
         if vast.any():
-            raise UserError(f"{self.line(int(np.flatnonzero(vast)[0]))}: {what} is too great a "
-                            "number: is its formula or unit another?")
+            raise UserError(f"{self.line(int(np.flatnonzero(vast)[0]))}: {what} is too large: is "
+                            "its formula or unit wrong?")
 
-    def refuse(self, wrong: np.ndarray, column: int) -> None:
+    def reject(self, wrong: np.ndarray, column: int) -> None:
         """Stops at the first cell that is no number."""
         if not wrong.any():
             return
@@ -145,17 +145,17 @@ class Measured:
         text = self.table[column].iloc[at].strip()
         name = " ".join(self.source.names[column].split())
         if plain_name(text) in map(plain_name, self.source.names):
-            why = (", a name of the header: a header that stands again, with columns in another "
-                   "order? Import its rows as a file of their own")
+            why = (", a name of the header: does the header appear again, with columns in another "
+                   "order? Import its rows as a separate file")
         elif wrong.mean() > 0.5 and re.fullmatch(r"[^\d.,-]+-?\d[\d.,]*", text):
-            why = (f", and {int(wrong.sum()):,} rows so: a word before each number. Take it out of "
+            why = (f", as {int(wrong.sum()):,} rows do: a word before each number. Remove it from "
                    "the export")
         else:
             why = _hint(text, self.marks)
         raise UserError(f"{self.line(at, column)}: the column {name} has `{text[:SHOWN]}`{why}")
 
     def count_missing(self, column: int, missing: np.ndarray) -> None:
-        """Counts the texts that stand for what is missing."""
+        """Counts the texts that mean a missing value."""
         if missing.any():
             name = " ".join(self.source.names[column].split())
             cells = pd.DataFrame({"zone": self.zone[missing],
@@ -167,14 +167,14 @@ class Measured:
         measure = self.columns.measures[key]
         at = measure.formula.plain_column
         if at is not None:
-            cells = self.marks.spelled(self.table[at])
-            self.refuse(cells.wrong | cells.missing, at)
+            cells = self.marks.encoded(self.table[at])
+            self.reject(cells.wrong | cells.missing, at)
             return cells.parts(3)
         values = self.floats(measure, key)
         if np.isnan(values).any():
             raise UserError(f"{self.line(int(np.flatnonzero(np.isnan(values))[0]))}: {key} cannot "
                             "be computed: a cell is missing, or it is divided by 0")
-        self.refuse_vast(np.abs(values) > MOST, key)
+        self.reject_vast(np.abs(values) > MOST, key)
         return np.rint(values * 1000).astype(np.int64)
 
     def measure(self, key: str, places: int) -> tuple[np.ndarray, np.ndarray]:
@@ -182,9 +182,9 @@ class Measured:
         measure = self.columns.measures[key]
         at = measure.plain_column
         if at is not None:
-            cells = self.marks.spelled(self.table[at])
-            self.refuse(cells.wrong, at)
-            self.refuse_percent(cells, key, at)
+            cells = self.marks.encoded(self.table[at])
+            self.reject(cells.wrong, at)
+            self.reject_percent(cells, key, at)
             if key in ("grade", "density"):
                 self.note_nines(at, cells.floats)
             parts = cells.parts(places)
@@ -193,11 +193,11 @@ class Measured:
             return np.where(missing, 0, parts), missing
         values = self.in_pitc_units(key)
         missing = np.isnan(values) | (values < 0)
-        self.refuse_vast(values > MOST, key)
+        self.reject_vast(values > MOST, key)
         return np.rint(np.where(missing, 0, values) * 10 ** places).astype(np.int64), missing
 
-    def refuse_percent(self, cells: Spelled, key: str, column: int) -> None:
-        """Stops at a cell with a sign of percent in a column whose unit is not said."""
+    def reject_percent(self, cells: Encoded, key: str, column: int) -> None:
+        """Stops at a cell with a percent sign in a column whose unit is not given."""
         if cells.percent.any():
             at = int(np.flatnonzero(cells.percent)[0])
             name = " ".join(self.source.names[column].split())
@@ -226,38 +226,38 @@ class Measured:
         return keys
 
     def found_in(self, table: Table) -> pd.Series:
-        """The value of a table for each row; NaN where none fits."""
+        """Returns the value of a table for each row; NaN if none fits."""
         keys = self.keys_of(table.columns)
         return keys.map({key: table.find(key.split("\t")) for key in keys.unique()})
 
 
 def _hint(text: str, marks: Marks) -> str:
-    """What may be meant by a cell that is no number."""
+    """Returns what a cell that is not a number may mean."""
     if not text:
         return ", which is empty"
     if text == UNCOMPUTED:
         return (", a formula that no program has computed: open the workbook in a spreadsheet, and "
                 "save it")
     if is_decimal(text):
-        return (", which is another number as a float of 64 bits: has it lost its point? If it "
-                f"stands for what is not known, give --missing '{text}'")
+        return (", which changes as a float of 64 bits: has it lost its point? If it means a "
+                f"missing value, give --missing '{text}'")
     if len(text) > LONGEST:
-        return f" and goes on, with {len(text):,} characters in all"
+        return f", which continues, with {len(text):,} characters in all"
     if text.startswith("#"):
-        return (f", an error of a spreadsheet: mend it there, or give --missing '{text}' where it "
-                "stands for what is not known")
+        return (f", an error of a spreadsheet: correct it there, or give --missing '{text}' if it "
+                "means a missing value")
     if re.fullmatch(r"[-+]?\d[\d.,]*\s*[^\W\d_][\w/³^]*", text):
-        return (": a unit in the cell. Take units out of the cells, and give theirs after the "
+        return (": a unit in the cell. Remove units from the cells, and give them after the "
                 "column, as --density 'SG t/m3'")
     if re.match(r"(?i)(bench|level|rl|elevation|z)\b", text):
-        return ", a heading between rows and no row: take such lines out"
+        return ", a heading between rows, not a row: remove such lines"
     if text.startswith("<"):
-        return f": if it stands for nothing, give --missing '{text}'"
+        return f": if it means nothing, give --missing '{text}'"
     if "," in text and marks.decimal == "." and not marks.thousands:
-        return (": if its comma is decimal, give --decimal , and if it stands between thousands, "
+        return (": if its comma is decimal, give --decimal , and if it separates thousands, "
                 "--thousands ,")
     if re.fullmatch(r"\d{4}-\d\d-\d\d.*|\d+-[A-Za-z]{3}", text):
-        return ": a spreadsheet has made a date of a number"
+        return ": a spreadsheet has changed a number to a date"
     if marks.thousands and marks.thousands in text:
-        return f": `{marks.thousands}` stands between thousands in other rows"
-    return f": if it stands for what is not known, give --missing '{text}'"
+        return f": `{marks.thousands}` separates thousands in other rows"
+    return f": if it means a missing value, give --missing '{text}'"

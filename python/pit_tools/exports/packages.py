@@ -1,5 +1,6 @@
-"""Reads from an export what its mining package says of the frame: where blocks are, how large, how
-turned, and what is missing. It becomes words of `pit-tools import`, as if they had been given."""
+"""Reads the frame of an export as its mining package wrote it: positions, sizes and turn of blocks,
+and marks of missing values. These become options of `pit-tools import`, as if they had been
+given."""
 from __future__ import annotations
 
 import re
@@ -16,12 +17,12 @@ from pit_tools.exports.presets import ABOVE, PACKAGES, Package, Triple
 from pit_tools.exports.source import Source, sources_of
 from pit_tools.exports.words import Words, columns_of
 from pit_tools.plans.grids import rotation_of
-from pit_tools.texts.formulas import Lacking
+from pit_tools.texts.formulas import MissingColumn
 
-# How many rows show whether turns above a header fit.
+# The number of rows that show whether turns above a header fit.
 SAMPLE = 5_000
 
-# A turn of fewer degrees is none.
+# A turn of fewer degrees counts as none.
 LEAST_TURN = 1e-4
 
 
@@ -45,33 +46,33 @@ def recognised(source: Source) -> str:
     return ""
 
 
-def told_of(name: str) -> str:
+def text_of(name: str) -> str:
     """That an export seems to be a package's."""
     return (f"the header is like {PACKAGES[name].title}'s: --package {name} reads coordinates, "
-            "sizes, turn and marks as that writes them")
+            "sizes, turn and marks as it writes them")
 
 
 def words_by_package(words: Words, paths: Sequence[str]) -> tuple[Words, str]:
-    """The words with what the package says of these exports, and a line that tells it. What the
-    words say already stays.
+    """Returns the options with those that follow from the package's exports, and a line that
+    reports them. Options that are given already stay.
 
-    Raises UserError if exports have several frames, or the package says too little."""
+    Raises UserError if exports have several frames, or the package writes too little."""
     package = PACKAGES[words.package]
     found = [Frames(path, package, words).read() for path in paths]
     for path, other in zip(paths[1:], found[1:]):
         differ = [key for key in found[0] if found[0][key] != other.get(key)]
         if differ:
             raise UserError(f"{path}: its {differ[0].replace('_', ' ')} is "
-                            f"{other.get(differ[0]) or 'not given'}, and that of {paths[0]} "
-                            f"{found[0][differ[0]]}: import models of two frames alone")
+                            f"{other.get(differ[0]) or 'not given'}, but in {paths[0]} it is "
+                            f"{found[0][differ[0]]}: import models of two frames separately")
     defaults = {one.name: one.default for one in fields(Words)}
     new = {key: value for key, value in found[0].items()
            if getattr(words, key) in (defaults[key], "", None)}
-    told = " ".join(f"--{key.replace('_', '-')}" + ("" if value is True else f" '{value}'")
-                    for key, value in new.items())
+    message = " ".join(f"--{key.replace('_', '-')}" + ("" if value is True else f" '{value}'")
+                       for key, value in new.items())
     marks = [mark for mark in package.marks if mark not in words.missing]
     return (replace(words, **new, package="", missing=[*words.missing, *marks]),
-            f"--package {words.package} stands for {told or 'no other word'}")
+            f"--package {words.package} means {message or 'no other option'}")
 
 
 @dataclass
@@ -86,7 +87,7 @@ class Columns:
             self.keys.setdefault(column_key(name), at)
 
     def triple(self, triples: Sequence[Triple]) -> list[int]:
-        """The first triple that the header has, or none."""
+        """Returns the first triple that the header has, or none."""
         for triple in triples:
             if all(name in self.keys for name in triple):
                 return [self.keys[name] for name in triple]
@@ -114,11 +115,11 @@ class Frames:
         columns = Columns(names)
         if not columns.triple(self.package.places) and self.package.index not in columns.keys:
             known = " or ".join(", ".join(triple) for triple in self.package.places)
-            raise Lacking(f"{known} of {self.package.title}", names)
+            raise MissingColumn(f"{known} of {self.package.title}", names)
         columns_of(self.words, names)
 
     def read(self) -> dict[str, Any]:
-        """Words by their names, for what the export says."""
+        """Returns options by their names, from what the export states."""
         places = self.columns.triple(self.package.places)
         world = self.columns.triple(self.package.world)
         self.table = self._numbers(places, world)
@@ -132,28 +133,28 @@ class Frames:
         self._take_sizes(above)
         if self.found.get("rotation") and not self.words.regularise:
             raise UserError(f"{self.path}: the model dips, by turns of {self.found['rotation']}, "
-                            "and benches of pitc are level: --regularise X,Y,Z spreads its blocks "
+                            "but benches of pitc are level: --regularise X,Y,Z spreads its blocks "
                             "over level ones")
         return self.found
 
     def _numbers(self, *more: Sequence[int]) -> pd.DataFrame:
-        """The numbers of the columns that tell of the frame, NaN if there is none."""
+        """Returns the numbers of the columns that describe the frame, NaN for a missing number."""
         package, keys = self.package, self.columns.keys
         wanted = [keys[name] for names in (package.corner, package.counts, package.origin,
                                            package.angles, package.axes, [package.index])
                   for name in names if name in keys]
         wanted = sorted({*wanted, *self.sizes, *(at for columns in more for at in columns)})
-        marks, pieces = None, []
+        marks, chunks = None, []
         for table in self.source.chunks(wanted):
             marks = marks or marks_of((table[at] for at in wanted), decimal=self.words.decimal,
                                       thousands=self.words.thousands,
                                       missing=[*self.words.missing, *package.marks])
-            pieces.append(pd.DataFrame({at: marks.spelled(table[at]).floats for at in wanted}))
-        table = pd.concat(pieces, ignore_index=True)
+            chunks.append(pd.DataFrame({at: marks.encoded(table[at]).floats for at in wanted}))
+        table = pd.concat(chunks, ignore_index=True)
         return table[table[wanted[0]].notna()] if wanted else table
 
     def _one(self, name: str) -> Optional[float]:
-        """The one value of a column, or None if there is none. Raises UserError if it has
+        """Returns the one value of a column, or None if there is none. Raises UserError if it has
         several."""
         at = self.columns.keys.get(name)
         if at is None:
@@ -161,8 +162,8 @@ class Frames:
         values = self.table[at].dropna().unique()
         if len(values) > 1:
             raise UserError(f"{self.path}: the column {self.source.names[at]} has {values[0]:g} "
-                            f"and {values[1]:g}: are two models in one export? Import each alone, "
-                            "by --where")
+                            f"and {values[1]:g}: are two models in one export? Import each "
+                            "separately, by --where")
         return float(values[0]) if len(values) else None
 
     def _three(self, names: Sequence[str]) -> Optional[list[float]]:
@@ -204,11 +205,10 @@ class Frames:
         if turns:
             origin = self._three(self.package.origin)
             if origin is None or corner is None:
+                needed = ", ".join([*self.package.corner, *self.package.origin]).upper()
                 raise UserError(f"{self.path}: the model is turned, by "
-                                f"{', '.join(self.package.angles).upper()}, and where it lies in "
-                                "the world is not said: export "
-                                f"{', '.join([*self.package.corner, *self.package.origin]).upper()}"
-                                " too")
+                                f"{', '.join(self.package.angles).upper()}, but its position in "
+                                f"the world is missing: also export {needed}")
             self._take_own_axes(places, corner, origin, turns)
             return
         if corner is not None:
@@ -216,22 +216,22 @@ class Frames:
         self._take_turn_above(places, above, corner)
 
     def _turns(self) -> list[tuple[str, float]]:
-        """Turns that columns say: axes and degrees, in their order."""
+        """Returns the turns that columns give: axes and degrees, in their order."""
         turns = []
         for angle, axis in zip(self.package.angles, self.package.axes):
             degrees = self._one(angle) or 0.0
             number = self._one(axis)
             if abs(degrees) > LEAST_TURN:
                 if number not in (1, 2, 3):
-                    raise UserError(f"{self.path}: {angle.upper()} is {degrees:g}, and "
-                                    f"{axis.upper()} says no axis from 1 to 3")
+                    raise UserError(f"{self.path}: {angle.upper()} is {degrees:g}, but "
+                                    f"{axis.upper()} has no axis from 1 to 3")
                 turns.append(("xyz"[int(number) - 1], degrees))
         return turns
 
     def _take_world(self, places: Sequence[int], world: Sequence[int],
                     corner: Optional[Sequence[float]]) -> None:
-        """Coordinates along the model's own axes beside those of the world: the turn that takes
-        one to the other."""
+        """Compares coordinates along the model's own axes with world coordinates, and returns the
+        turn between them."""
         own = self.table[list(places)].to_numpy()
         there = self.table[list(world)].to_numpy()
         known = np.isfinite(own).all(axis=1) & np.isfinite(there).all(axis=1)
@@ -243,8 +243,8 @@ class Frames:
         least = float(np.nanmin(sizes))
         if not off < 0.1 * least:
             raise UserError(f"{self.path}: {self.columns.formula(places[0])} and "
-                            f"{self.columns.formula(world[0])} are no two coordinates of one "
-                            f"place: the best turn leaves {off:.3g} between them")
+                            f"{self.columns.formula(world[0])} are not coordinates of the same "
+                            f"positions: the best turn leaves {off:.3g} between them")
         start = np.array(corner) if corner is not None else np.nanmin(own - sizes / 2, axis=0)
         origin = rotation.apply(start - middle) + there_middle
         degrees = [float(angle) for angle in -rotation.as_euler("ZXY", degrees=True)]
@@ -255,8 +255,8 @@ class Frames:
     def _take_own_axes(self, places: Sequence[int], corner: Sequence[float],
                        origin: Sequence[float], turns: Sequence[tuple[str, float]],
                        is_corner: bool = True) -> None:
-        """Coordinates along the model's own axes, moved so that the corner is where it is in the
-        world."""
+        """Returns coordinates along the model's own axes, shifted so that the corner has its world
+        position."""
         for axis, at, here, there in zip("xyz", places, corner, origin):
             move = round(there - here, 3)
             sign = "+" if move > 0 else "-"
@@ -280,8 +280,8 @@ class Frames:
 
     def _take_turn_above(self, places: Sequence[int], above: dict[str, list[float]],
                          corner: Optional[Sequence[float]]) -> None:
-        """A turn that lines above the header say, of world coordinates. The signs of a dip and a
-        pitch are those by which blocks lie side by side."""
+        """Returns the turn that lines above the header give, of world coordinates. The signs of a
+        dip and a pitch are chosen so that blocks are adjacent."""
         degrees = {key: above.get(key, [0.0])[0] for key in ("azimuth", "dip", "pitch")}
         if self.package.bearing == "x" and "azimuth" in above:
             degrees["azimuth"] -= 90
@@ -292,8 +292,8 @@ class Frames:
             self._put_turns([("z", degrees["azimuth"])], about)
             return
         if not self.sizes and "parents" not in above:
-            raise UserError(f"{self.path}: the lines above the header say that the model dips, and "
-                            "neither these nor columns say the size of a block: export its sizes")
+            raise UserError(f"{self.path}: by the lines above the header the model dips, but "
+                            "neither they nor columns give the size of a block: export its sizes")
         for dip in (degrees["dip"], -degrees["dip"]):
             for pitch in (degrees["pitch"], -degrees["pitch"]):
                 turns = [(axis, one) for axis, one in (("z", degrees["azimuth"]), ("x", dip),
@@ -301,13 +301,13 @@ class Frames:
                 if self._fits(places, turns, above.get("parents")):
                     self._put_turns(turns, about)
                     return
-        raise UserError(f"{self.path}: rows do not lie side by side by the turn above the header, "
-                        f"azimuth {degrees['azimuth']:g}, dip {degrees['dip']:g}, pitch "
+        raise UserError(f"{self.path}: rows are not adjacent by the turn above the header, azimuth "
+                        f"{degrees['azimuth']:g}, dip {degrees['dip']:g}, pitch "
                         f"{degrees['pitch']:g}: give the turns by --rotation")
 
     def _fits(self, places: Sequence[int], turns: Sequence[tuple[str, float]],
               parents: Optional[Sequence[float]]) -> bool:
-        """Whether rows of the largest size lie on one grid of it, so turned."""
+        """Returns whether rows of the largest size are on one grid of that size, with this turn."""
         table = self.table
         sizes = np.array(table[self.sizes].max() if self.sizes else parents)
         if self.sizes:
@@ -318,10 +318,10 @@ class Frames:
         return bool(np.abs(place - np.rint(place)).max() < 0.1)
 
     def _take_index(self) -> None:
-        """Numbers of parents in place of coordinates, z running first."""
+        """Reads numbers of parents in place of coordinates, with z running first."""
         counts, corner = self._three(self.package.counts), self._three(self.package.corner)
         if counts is None or corner is None or not self.sizes:
-            raise UserError(f"{self.path}: it has {self.package.index.upper()} and no "
+            raise UserError(f"{self.path}: it has {self.package.index.upper()} but not "
                             f"{', '.join(self.package.places[0]).upper()}: export these too, or "
                             f"{', '.join([*self.package.counts, *self.package.corner]).upper()} "
                             f"and {', '.join(self.package.sizes[0]).upper()}")
@@ -337,7 +337,7 @@ class Frames:
                   blocks=counts)
 
     def _take_sizes(self, above: dict[str, list[float]]) -> None:
-        """The size of blocks, and that of parents where rows have several sizes."""
+        """Returns the size of blocks, and of parents if rows have several sizes."""
         parents = above.get("parents")
         if not self.sizes:
             if parents:
@@ -353,13 +353,13 @@ class Frames:
             return
         if parents is None and not self.package.has_parents:
             raise UserError(f"{self.path}: rows have sizes up to "
-                            f"{', '.join(f'{size:g}' for size in largest)}, and "
-                            f"{self.package.title} says nowhere that of a parent, which may be "
-                            "smaller: give --parents X,Y,Z")
+                            f"{', '.join(f'{size:g}' for size in largest)}, but "
+                            f"{self.package.title} does not write the size of a parent, which may "
+                            "be smaller: give --parents X,Y,Z")
         self._put(parents=parents or largest)
 
     def _put(self, **words: Any) -> None:
-        """Keeps words; numbers become texts of three decimals at most."""
+        """Keeps options; numbers become texts of at most three decimals."""
         for key, value in words.items():
             if not isinstance(value, str):
                 value = ",".join(f"{round(float(one), 3):.10g}" for one in value)

@@ -1,5 +1,5 @@
-"""How mining packages write block models: the names of their columns, of lines above the header,
-and of what is missing. `packages` reads by it."""
+"""How mining packages write block models: the names of their columns, the lines above the header,
+and the marks of missing values. `packages` reads by these."""
 from __future__ import annotations
 
 from dataclasses import dataclass
@@ -11,17 +11,17 @@ Triple = tuple[str, str, str]
 
 @dataclass(frozen=True)
 class Package:
-    """What a package writes. Names of columns are compared in lower case, without units in
-    brackets, blanks, points and underscores but a leading one; of several triples the first that
-    the header has is taken.
+    """The form of a package's exports. Names of columns are compared in lower case, without units
+    in brackets, blanks, points and underscores except a leading one; of several triples the first
+    that the header has is used.
 
-    `world` are coordinates along the map's axes beside `places` that are along the model's
-    own. `corner`, `counts`, `origin`, `angles` and `axes` are columns with one value in all
-    rows: the smallest corner, how many parents there are, the corner in world coordinates, and
-    turns about axes by number. `has_parents` where no block is greater than a parent.
-    `bearing` says what an azimuth above the header means: where the model's +x or its +y
-    points. `order` is that of three numbers above the header. `marks` stand for what is
-    missing, `signs` are columns by which a header is known, all of a group."""
+    `world` are coordinates along the map's axes, in addition to `places` along the model's own.
+    `corner`, `counts`, `origin`, `angles` and `axes` are columns with one value in all rows: the
+    smallest corner, the numbers of parents, the corner in world coordinates, and turns about axes
+    by number. `has_parents` is true if no block is larger than a parent. `bearing` is what an
+    azimuth above the header means: the direction of the model's +x or +y. `order` is the order of
+    three numbers above the header. `marks` mean missing values; a header is recognised by all
+    columns of a group in `signs`."""
 
     title: str
     places: Sequence[Triple]
@@ -83,7 +83,7 @@ PACKAGES = {
 
 NAMES = tuple(PACKAGES)
 
-# What lines above the header call a number or three, without case and blanks.
+# The names of a number or three above the header, without case and blanks.
 ABOVE = {
     "corner": ("origin", "modelorigin", "basepoint", "minimumcoordinates", "minimumcorner",
                "corner", "minimum"),

@@ -11,12 +11,12 @@ import pandas as pd
 from pit_tools import progress
 from pit_tools.errors import UserError
 from pit_tools.exports.cells import Marks, marks_of
-from pit_tools.exports.last_lines import last_line_told
+from pit_tools.exports.last_lines import last_line_warning
 from pit_tools.exports.measures import COORDINATES, Measured
 from pit_tools.exports.report import Report
 from pit_tools.exports.source import Source, sources_of
 from pit_tools.exports.unnamed import Unnamed
-from pit_tools.exports.words import Columns, Words, columns_of, grade_units, unit_doubts
+from pit_tools.exports.words import Columns, Words, columns_of, grade_units, unit_warnings
 from pit_tools.exports.workbook import hidden_rows
 from pit_tools.texts.decimals import is_number_like
 from pit_tools.texts.formulas import plain_name
@@ -24,7 +24,7 @@ from pit_tools.texts.formulas import plain_name
 # Decimals that tonnes and grades keep until several rows of one block are summed.
 FINE = {"tonnes": 6, "grade": 9}
 
-# Names of coordinates that are those of a block's edge.
+# Names of coordinates of a block's edge.
 EDGE = re.compile("(x|y|z|east|easting|north|northing|rl|elev|elevation)(min|max|low|lower|high|"
                   "upper|corner|origin|from|to|start|end|left|right|bottom|top)")
 
@@ -34,11 +34,11 @@ NINES_ABOVE = 5
 
 
 class Reading:
-    """Takes the pieces of exports, one after the other, to arrays."""
+    """Reads the parts of exports, one after the other, into arrays."""
 
     def __init__(self, words: Words) -> None:
         self.words = words
-        self.pieces: dict[str, list[np.ndarray]] = {}
+        self.chunks: dict[str, list[np.ndarray]] = {}
         self.zone_numbers: dict[str, int] = {}
         # of each column the texts of missing cells, each with the number of its zone
         self.missing: dict[str, Counter[tuple[int, str]]] = {}
@@ -47,16 +47,16 @@ class Reading:
         self.source_at = 0
         self.first_record = 0
         self.unknown_densities: Counter = Counter()
-        # texts that a filter takes for one, by column and code; a cell with a sign of percent, by
+        # texts that a filter treats as one, by column and code; a cell with a percent sign, by
         # column
         self.spellings: dict[tuple[str, str], set[str]] = {}
         self.percents: dict[str, str] = {}
         self.unnamed = Unnamed()
-        # a number whose point may stand between thousands
+        # a number whose point may separate thousands
         self.unclear_point = ""
-        # rows whose grade lacks a term, and rows that have some of its columns and no grade, each
+        # rows whose grade misses a term, and rows that have some of its columns but no grade, each
         # with the first line
-        self.lacking: dict[str, tuple[int, str]] = {}
+        self.incomplete: dict[str, tuple[int, str]] = {}
         # by the name of a column of grades or densities, how often it has marks as 999, with the
         # first line, and the largest of its other numbers
         self.nines: dict[str, dict[float, tuple[int, str]]] = {}
@@ -64,20 +64,20 @@ class Reading:
 
     def keep(self, **columns: np.ndarray) -> None:
         for name, values in columns.items():
-            self.pieces.setdefault(name, []).append(values)
+            self.chunks.setdefault(name, []).append(values)
 
     def agree_on(self, unnamed: Unnamed, source: Source) -> None:
-        """Keeps what a header has beside what is read. Raises UserError if another export has
-        no such columns of sizes."""
+        """Keeps the columns of a header that are not read otherwise. Raises UserError if another
+        export has no such columns of sizes."""
         if self.source_at and bool(unnamed.sizes) != bool(self.unnamed.sizes):
-            raise UserError(f"{source.path}: of the exports some have columns of sizes, and others "
+            raise UserError(f"{source.path}: some of the exports have columns of sizes, but others "
                             "none: export all with the same columns")
         self.unnamed = unnamed
 
     def joined(self, name: str) -> Optional[np.ndarray]:
-        """A column of all pieces, or None; the pieces are given up."""
-        pieces = self.pieces.pop(name, None)
-        return np.concatenate(pieces) if pieces else None
+        """Returns a column of all parts, or None; the parts are freed."""
+        chunks = self.chunks.pop(name, None)
+        return np.concatenate(chunks) if chunks else None
 
     def column(self, name: str) -> np.ndarray:
         """The same of a column that each row has. Raises KeyError if it was not read."""
@@ -113,35 +113,35 @@ def read_source(source: Source, columns: Columns, reading: Reading, report: Repo
             marks = marks_of((table[at] for at in columns.numeric), decimal=words.decimal,
                              thousands=words.thousands, missing=words.missing)
             reading.unclear_point = reading.unclear_point or marks.unclear_point
-            report.facts.append(source.told())
-            report.doubts += unit_doubts(columns, source.names, source.units)
+            report.facts.append(source.description())
+            report.doubts += unit_warnings(columns, source.names, source.units)
             report.facts += grade_units(columns, source.names, source.units, source.path)
-            report.facts += last_line_told(source)
-            report.doubts += [*source.doubts(), *hidden_told(source),
-                              *places_doubts(columns, source.names)]
-        Piece(table, source, columns, marks, reading).take()
+            report.facts += last_line_warning(source)
+            report.doubts += [*source.doubts(), *hidden_text(source),
+                              *places_warnings(columns, source.names)]
+        Chunk(table, source, columns, marks, reading).take()
         progress.tell(f"{reading.counts['rows']:,} rows of {source.path}")
     if marks is not None:
-        report.facts += _marks_told(marks)
+        report.facts += _marks_text(marks)
         if not reading.source_at:
-            report.facts.append(_columns_told(columns, source.names))
+            report.facts.append(_columns_text(columns, source.names))
         reading.counts["money"] += columns.is_money
     reading.source_at += 1
 
 
-def hidden_told(source: Source) -> list[str]:
-    """A line about rows of a sheet that are hidden, or none."""
+def hidden_text(source: Source) -> list[str]:
+    """Returns a warning about hidden rows of a sheet, or none."""
     if source.kind != "workbook":
         return []
     rows = hidden_rows(source.path, source.sheet_name)
     return ([f"{source.path}: sheet `{source.sheet_name}` has {len(rows):,} hidden rows, as row "
-             f"{rows[0]}, and they are read too: delete them if they are no part of the model"]
+             f"{rows[0]}; they are read too: delete them if they do not belong to the model"]
             if rows else [])
 
 
-def places_doubts(columns: Columns, names: Sequence[str]) -> list[str]:
-    """Lines about columns of coordinates whose names say something else: edges of blocks, or a
-    northing as x."""
+def places_warnings(columns: Columns, names: Sequence[str]) -> list[str]:
+    """Yields warnings about columns of coordinates whose names mean something else: edges of
+    blocks, or a northing as x."""
     named = {key: " ".join(names[at].split()) for key in COORDINATES if key in columns.measures
              if (at := columns.measures[key].formula.plain_column) is not None}
     doubts = []
@@ -149,11 +149,11 @@ def places_doubts(columns: Columns, names: Sequence[str]) -> list[str]:
              if EDGE.fullmatch(re.sub(r"[\W_]", "", name.casefold()))]
     if edges:
         key, name = edges[0]
-        doubts.append(f"{', '.join(name for _, name in edges)} seem to be edges of blocks, and "
-                      "coordinates are those of centroids: half a block lies between, as "
-                      f"--{key} '{name} + 10' where blocks are 20 m long")
+        doubts.append(f"{', '.join(name for _, name in edges)} seem to be edges of blocks, but "
+                      f"coordinates must be centroids: add half a block, as --{key} '{name} + 10' "
+                      "if blocks are 20 m long")
     if re.match("(?i)north", named.get("x", "")) and re.match("(?i)east", named.get("y", "")):
-        doubts.append(f"x is {named['x']} and y {named['y']}: x goes east, and y north, or the "
+        doubts.append(f"x is {named['x']} and y {named['y']}: x must go east, and y north, or the "
                       "mine is mirrored")
     return doubts
 
@@ -167,8 +167,8 @@ def _key_column(columns: Columns) -> int:
 
 
 def _without_units(table: pd.DataFrame, key: int, source: Source) -> pd.DataFrame:
-    """The first piece without the rows between the header and the first number, which the source
-    keeps."""
+    """Returns the first part without the rows between the header and the first number, which the
+    source keeps."""
     if not source.has_header:
         return table
     for at in range(min(len(table), 100)):
@@ -181,7 +181,7 @@ def _without_units(table: pd.DataFrame, key: int, source: Source) -> pd.DataFram
 
 
 def _is_counted(row: pd.Series) -> bool:
-    """Whether a row has the numbers of the columns, counted from 0 or 1."""
+    """Returns whether a row has the numbers of the columns, counted from 0 or 1."""
     return len(row) > 3 and any(all(str(cell).strip() == str(at + start)
                                     for at, cell in row.items()) for start in (0, 1))
 
@@ -190,19 +190,19 @@ def _row_of(row: pd.Series, width: int) -> list[str]:
     return [str(row.get(at, "")) for at in range(width)]
 
 
-def _marks_told(marks: Marks) -> list[str]:
-    told = []
+def _marks_text(marks: Marks) -> list[str]:
+    message = []
     if marks.decimal == ",":
-        told.append("numbers have a decimal comma")
+        message.append("numbers have a decimal comma")
     between = {".": "points", ",": "commas", "'": "apostrophes", "’": "apostrophes"}
     seen = sorted({between.get(mark, "no-break spaces" if mark in "\u00a0\u202f" else "blanks")
                    for mark in marks.seen})
     if seen:
-        told.append(f"between thousands stand {' and '.join(seen)}")
-    return told
+        message.append(f"thousands are separated by {' and '.join(seen)}")
+    return message
 
 
-def _columns_told(columns: Columns, names: Sequence[str]) -> str:
+def _columns_text(columns: Columns, names: Sequence[str]) -> str:
     parts = [f"{key.replace('_', ' ')} {' '.join(measure.formula.text.split())}"
              + (f" ({measure.unit})" if measure.unit else "")
              for key, measure in columns.measures.items()]
@@ -211,11 +211,11 @@ def _columns_told(columns: Columns, names: Sequence[str]) -> str:
     return "read as " + ", ".join(parts)
 
 
-class Piece(Measured):
-    """Some rows of an export, and what is taken of them."""
+class Chunk(Measured):
+    """Some rows of an export, and what is read from them."""
 
     def take(self) -> None:
-        """Puts the rows behind those that were read before."""
+        """Appends the rows to those that were read before."""
         self.reading.counts["records"] += len(self.table)
         self.drop_lines_that_are_no_rows()
         if self.columns.filters:
@@ -236,8 +236,8 @@ class Piece(Measured):
                           file=np.full(len(self.table), self.reading.source_at, np.int16))
 
     def drop_lines_that_are_no_rows(self) -> None:
-        """Omits rows that are empty where formulas look, the header where it stands again, and
-        totals behind the last row."""
+        """Omits rows that are empty in the columns of formulas, repeated headers, and totals after
+        the last row."""
         numeric = self.columns.numeric
         kept = np.zeros(len(self.table), bool)
         for at in numeric:
@@ -251,7 +251,7 @@ class Piece(Measured):
         again = (self.table[key] == self.source.names[key]).to_numpy()
         if again.any():
             self.judge_header(int(np.flatnonzero(again)[0]))
-            self.reading.counts["headers that stand again"] += int(again.sum())
+            self.reading.counts["repeated headers"] += int(again.sum())
             self.table = self.table[~again]
         total = np.zeros(len(self.table), bool)
         for at in range(len(self.table) - 1, max(len(self.table) - 4, -1), -1):
@@ -262,24 +262,24 @@ class Piece(Measured):
                 break
             total[at] = True
         if total.any():
-            self.reading.counts["lines behind the last row, as totals"] += int(total.sum())
+            self.reading.counts["lines after the last row, as totals"] += int(total.sum())
             self.table = self.table[~total]
 
     def judge_header(self, at: int) -> None:
-        """Stops at a header that stands again with its columns in another order."""
+        """Stops at a repeated header with its columns in another order."""
         for column in self.table.columns:
             text, name = self.table[column].iloc[at].strip(), self.source.names[column]
             if plain_name(text) != plain_name(name):
-                raise UserError(f"{self.line(at)}: a header stands again, with `{text}` where the "
+                raise UserError(f"{self.line(at)}: the header is repeated, with `{text}` where the "
                                 f"first one has `{name}`: its rows have other columns. Import them "
-                                "as a file of their own, with the same names")
+                                "as a separate file, with the same names")
 
     def filter(self) -> None:
         """Omits the rows that a filter does not let through."""
         kept = np.ones(len(self.table), bool)
         for formula in self.columns.filters:
-            known, standing = self.values(formula, has_negatives=False)
-            kept &= formula.holds(known, standing)
+            known, unchanged = self.values(formula, has_negatives=False)
+            kept &= formula.holds(known, unchanged)
         self.reading.counts["filtered"] += int((~kept).sum())
         self.table = self.table[kept]
 
@@ -302,15 +302,15 @@ class Piece(Measured):
         kept.update({name: at for name, at in (("own_weight", found.weight),
                                                ("own_volume", found.volume)) if at is not None})
         for name, at in kept.items():
-            numbers = self.marks.spelled(self.table[at]).floats
+            numbers = self.marks.encoded(self.table[at]).floats
             self.reading.keep(**{name: np.where(numbers > 0, numbers, np.nan)})
         for number, at in enumerate(found.rests):
             self.reading.keep(
-                **{f"rest_{number}": self.marks.spelled(self.table[at], as_percent=True).floats})
+                **{f"rest_{number}": self.marks.encoded(self.table[at], as_percent=True).floats})
 
     def take_tonnes(self) -> None:
-        """Tonnes in parts, -1 where missing; or, of a density, floats until the volume of a block
-        is known."""
+        """Returns tonnes in parts, -1 if missing; or, of a density, floats until the volume of a
+        block is known."""
         if "tonnes" in self.columns.measures:
             tonnes, missing = self.measure("tonnes", self.reading.fine["tonnes"])
             self.reading.keep(zero=~missing & (tonnes == 0))
@@ -329,28 +329,28 @@ class Piece(Measured):
         self.judge_share()
 
     def judge_share(self) -> None:
-        """Stops where a share is missing of a row that has a mass: it may be whole or none."""
+        """Stops if a row with a mass misses a share: it may be the complete block or none of it."""
         if "share" not in self.columns.measures:
             return
-        lacking = (np.isnan(self.reading.pieces["share"][-1])
-                   & (self.reading.pieces["density"][-1] > 0))
-        if lacking.any():
-            at = int(np.flatnonzero(lacking)[0])
+        absent = (np.isnan(self.reading.chunks["share"][-1])
+                  & (self.reading.chunks["density"][-1] > 0))
+        if absent.any():
+            at = int(np.flatnonzero(absent)[0])
             measure = self.columns.measures["share"]
             column = sorted(measure.formula.numbers)[0]
             name = " ".join(self.source.names[column].split())
             whole = (100 if measure.unit
-                     or self.marks.spelled(self.table[column]).floats.max(initial=0) > 1 else 1)
+                     or self.marks.encoded(self.table[column]).floats.max(initial=0) > 1 else 1)
             unit = f" {measure.unit}" if measure.unit else ""
             raise UserError(f"{self.line(at)}: the share is missing, {name} being "
                             f"`{self.table[column].iloc[at].strip()}`, as in "
-                            f"{int(lacking.sum()):,} rows that have a mass: where that says whole, "
-                            f"give --share 'where(missing({name}), {whole}, {name}){unit}'; where "
-                            f"it says none, 0 in place of {whole}")
+                            f"{int(absent.sum()):,} rows that have a mass: if that means a "
+                            f"complete block, give --share 'where(missing({name}), {whole}, "
+                            f"{name}){unit}'; if it means none, 0 in place of {whole}")
 
     def densities(self) -> np.ndarray:
-        """Tonnes a cubic metre, by the column and, if that is missing, by the table of rock
-        codes; NaN if there is none."""
+        """Returns tonnes per cubic metre, by the column and, if that is missing, by the table of
+        rock codes; NaN if there is none."""
         values = np.full(len(self.table), np.nan)
         if "density" in self.columns.measures:
             values = self.in_pitc_units("density")
@@ -358,11 +358,11 @@ class Piece(Measured):
             texts = self.found_in(self.columns.densities)
             numbers = texts.map({text: _number_or_nan(text)
                                  for text in texts.dropna().unique()}).to_numpy(float)
-            lacking = np.isnan(values)
-            unknown = lacking & texts.isna().to_numpy()
+            absent = np.isnan(values)
+            unknown = absent & texts.isna().to_numpy()
             self.reading.unknown_densities.update(
                 self.keys_of(self.columns.densities.columns)[unknown].value_counts().to_dict())
-            values = np.where(lacking, numbers, values)
+            values = np.where(absent, numbers, values)
         return values
 
     def take_grade(self) -> None:
@@ -372,7 +372,7 @@ class Piece(Measured):
         self.reading.keep(grade=np.where(missing, -1, grade))
 
     def zones(self) -> np.ndarray:
-        """The number of each row's zone, int32, -1 if there is none."""
+        """Returns the number of each row's zone, int32, -1 if there is none."""
         if self.columns.zones:
             names = self.found_in(self.columns.zones).fillna("")
         elif self.columns.zone:
@@ -390,4 +390,4 @@ def _number_or_nan(text: str) -> float:
     try:
         return float(text)
     except ValueError:
-        raise UserError(f"the table of densities has `{text}`, which is no number") from None
+        raise UserError(f"the table of densities has `{text}`, which is not a number") from None

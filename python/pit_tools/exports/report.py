@@ -1,4 +1,4 @@
-"""What is reported of an import."""
+"""The report of an import."""
 from __future__ import annotations
 
 from dataclasses import dataclass, field
@@ -6,8 +6,7 @@ from dataclasses import dataclass, field
 
 @dataclass
 class Report:
-    """What is reported of an import: `facts` in order, and `doubts`, what is no fault and may
-    be wrong."""
+    """The report of an import: `facts` in order, and `doubts`, warnings of what may be wrong."""
 
     facts: list[str] = field(default_factory=list)
     doubts: list[str] = field(default_factory=list)

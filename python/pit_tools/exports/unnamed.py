@@ -1,8 +1,8 @@
-"""Columns that a header has and nobody named, and whose names say what they hold: they are laid
-beside what is read.
+"""Columns of a header that no option names, but whose names show their contents: they are compared
+with what is read.
 
-An export of sub-blocks has their sizes, a model of tonnes its density: so it shows whether all adds
-up."""
+An export of sub-blocks has their sizes, a model of tonnes its density: so it shows whether the sums
+agree."""
 from __future__ import annotations
 
 import re
@@ -14,7 +14,7 @@ from pit_tools.texts.formulas import short_name
 if TYPE_CHECKING:
     from pit_tools.exports.words import Words
 
-# The letters and words of an axis, and what stands before or behind them in the name of a size.
+# The letters and words of an axis, and what precedes or follows them in the name of a size.
 AXES = ("x|e|east|easting", "y|n|north|northing", "z|rl|elev|elevation|level")
 SIZE = "size|dim|dimension|inc|increment|len|length|extent|width|blocksize|blocklength|blockdim"
 
@@ -28,8 +28,8 @@ REST = re.compile(rf"{SHARE}(waste|wst|air){SHARE}")
 
 @dataclass(frozen=True)
 class Unnamed:
-    """Places of columns in a header: three sizes of a row's block, the density or the tonnes beside
-    the other that is read, its volume, and shares of waste or air."""
+    """Positions of columns in a header: three sizes of a row's block, the density or the tonnes,
+    whichever is not read, its volume, and shares of waste or air."""
 
     sizes: Sequence[int] = ()
     weight: Optional[int] = None
@@ -42,12 +42,12 @@ class Unnamed:
         return [*self.sizes, *self.rests,
                 *(at for at in (self.weight, self.volume) if at is not None)]
 
-    def told(self, columns: Sequence[int]) -> str:
+    def names_text(self, columns: Sequence[int]) -> str:
         return ", ".join(" ".join(self.names[at].split()) for at in columns)
 
 
 def unnamed_in(names: Sequence[str], words: Words) -> Unnamed:
-    """What a header has beside what these words read."""
+    """Returns the columns of a header besides those that these options read."""
     plain = [re.sub(r"[\W_]", "", name.casefold()) for name in names]
     sizes = () if words.sub_size else sizes_in(names)
     whole = not (words.share or words.ore_share)
@@ -59,8 +59,8 @@ def unnamed_in(names: Sequence[str], words: Words) -> Unnamed:
 
 
 def sizes_in(names: Sequence[str]) -> tuple[int, ...]:
-    """The columns of sizes along x, y and z, as XINC, dim_x, `_x_size` or `x length`; none
-    where one lacks or is repeated."""
+    """Returns the columns of sizes along x, y and z, as XINC, dim_x, `_x_size` or `x length`; none
+    if one is missing or repeated."""
     plain = [re.sub(r"[\W_]", "", short_name(name)) for name in names]
     found = []
     for axis in AXES:

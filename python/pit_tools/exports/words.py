@@ -1,5 +1,4 @@
-"""The words that say what an export's columns are, and the formulas that they are for its
-header."""
+"""The options that describe an export's columns, and their formulas for its header."""
 from __future__ import annotations
 
 import csv
@@ -14,11 +13,11 @@ from pit_tools.exports.source import closest_separator
 from pit_tools.exports.unnamed import Unnamed, unnamed_in
 from pit_tools.files import inputs
 from pit_tools.texts.evaluation import code_name
-from pit_tools.texts.formulas import Formula, Lacking, formula_of, plain_name
+from pit_tools.texts.formulas import Formula, MissingColumn, formula_of, plain_name
 from pit_tools.texts.units import (AMBIGUOUS_GRADES, LENGTHS, METALS_A_TONNE, factor_of,
                                    grade_unit_in, is_factor, is_money_a_tonne, metal_in, named_in)
 
-# What each word is in, for the unit behind it.
+# The kind of each option's unit.
 KINDS = {"x": "length", "y": "length", "z": "length", "i": "", "j": "", "k": "", "tonnes": "mass",
          "density": "density", "waste_density": "density", "volume": "volume", "share": "share",
          "ore_share": "share", "waste_share": "share", "grade": "grade", "size_x": "length",
@@ -30,13 +29,13 @@ MOST_TABLE = 1 << 24
 
 @dataclass
 class Words:
-    """What is said of an export; an empty word is not said. Names are those of the options of
+    """The description of an export; an empty text is not given. Names are the options' of
     `pit-tools import`.
 
-    `x` to `grade` are columns or formulas, with a unit behind them; `sub_size` has three of them;
-    `zone` names columns; `where` are filters; `density_by` and `zones` are tables; `below` has
-    pairs of a zone and one above it, as `flat:steep`. The others say how the text is written, what
-    the grid is, and what to do."""
+    `x` to `grade` are columns or formulas, followed by a unit; `sub_size` has three of them; `zone`
+    names columns; `where` are filters; `density_by` and `zones` are tables; `below` has pairs of a
+    zone and one above it, as `flat:steep`. The others give the form of the text, the grid, and what
+    to do."""
 
     x: str = ""
     y: str = ""
@@ -87,9 +86,9 @@ class Words:
     below: Sequence[str] = ()
 
     @classmethod
-    def of_record(cls, told: dict[str, Any]) -> Words:
-        """Words as BASE.json has them. It raises TypeError for what are none."""
-        words = cls(**told)
+    def of_record(cls, record: dict[str, Any]) -> Words:
+        """Returns options from BASE.json. It raises TypeError for anything else."""
+        words = cls(**record)
         for one in fields(cls):
             value = getattr(words, one.name)
             if isinstance(one.default, bool):
@@ -107,7 +106,7 @@ class Words:
 
     @property
     def is_listed(self) -> bool:
-        """Whether rows have no coordinates, and lie in an order."""
+        """Returns whether rows have no coordinates, but an order."""
         return not (self.x or self.i)
 
     @property
@@ -120,27 +119,27 @@ class Words:
 
     @property
     def is_merged(self) -> bool:
-        """Whether several rows may be one block."""
+        """Returns whether several rows may be one block."""
         return self.merge or bool(self.block_size)
 
     @property
     def block_size(self) -> str:
-        """The size of the blocks into which rows are summed up, or none."""
+        """Returns the size of the blocks into which rows are summed up, or none."""
         return self.parents or self.regularise
 
     def formulas(self) -> dict[str, str]:
-        """The texts of formulas, by what they are."""
+        """Returns the texts of formulas, by what they describe."""
         texts = {key: getattr(self, key) for key in KINDS if getattr(self, key, "")}
         if self.sub_size:
             cells = self.sub_size.split(",")
             if len(cells) != 3:
-                raise UserError("--sub-size: give three columns, as XINC,YINC,ZINC, and not "
+                raise UserError("--sub-size: give three columns, as XINC,YINC,ZINC, not "
                                 f"`{self.sub_size}`")
             texts.update(zip(("size_x", "size_y", "size_z"), cells))
         return texts
 
     def judge(self) -> None:
-        """Refuses words that do not go together."""
+        """Rejects options that contradict each other."""
         if bool(self.x) != bool(self.y) or bool(self.x) != bool(self.z):
             raise UserError("give --x, --y and --z together")
         if bool(self.i) != bool(self.j) or bool(self.i) != bool(self.k):
@@ -154,9 +153,9 @@ class Words:
             raise UserError("indices need --first, the centroid of the first block, and --size")
         for flag, axis in (("--from-top", self.from_top), ("--from-north", self.from_north)):
             if axis and not (self.is_indexed and self.blocks):
-                raise UserError(f"{flag} goes with --i, --j and --k, and needs --blocks, how many "
-                                "there are along each axis: rows may lack the last ones, and all "
-                                "others would move")
+                raise UserError(f"{flag} requires --i, --j and --k, and --blocks with the number "
+                                "along each axis: rows may miss the last ones, and all others "
+                                "would shift")
         if self.x_bearing is not None and self.y_azimuth is not None:
             raise UserError("give --x-bearing or --y-azimuth, not both")
         if not all(math.isfinite(angle or 0) for angle in (self.x_bearing, self.y_azimuth)):
@@ -165,57 +164,57 @@ class Words:
         if self.parents and self.regularise:
             raise UserError("give --parents or --regularise, not both")
         if self.rotation and (self.is_turned or not self.regularise):
-            raise UserError("--rotation goes with --regularise X,Y,Z, which spreads a model that "
-                            "dips over level blocks, and without --x-bearing and --y-azimuth")
+            raise UserError("--rotation requires --regularise X,Y,Z, which spreads a model that "
+                            "dips over level blocks, and excludes --x-bearing and --y-azimuth")
         if self.own_axes and not (self.is_turned or self.rotation) or self.own_axes and not self.x:
-            raise UserError("--own-axes goes with --x, --y and --z and with --x-bearing, "
-                            "--y-azimuth or --rotation")
+            raise UserError("--own-axes requires --x, --y and --z, and --x-bearing, --y-azimuth or "
+                            "--rotation")
         self._judge_masses()
-        self._judge_signs()
+        self._judge_characters()
 
     def _judge_feet(self) -> None:
-        """Refuses densities and volumes in cubic feet beside lengths whose unit is not given."""
+        """Rejects densities and volumes in cubic feet with lengths whose unit is not given."""
         if not self.x or self.in_feet or self.volume or self.x.split()[-1] in LENGTHS:
             return
         unit = (self.density.split() or [""])[-1]
         if "/" in unit and ("ft3" in unit or "yd3" in unit):
-            raise UserError(f"--density is in {unit}, and the lengths have no unit: give "
-                            f"--x '{self.x} ft' and the like, or --in-feet where all lengths are "
-                            f"in feet; '{self.x} m' where they are metres")
+            raise UserError(f"--density is in {unit}, but the lengths have no unit: give --x "
+                            f"'{self.x} ft' and the like, or --in-feet if all lengths are in feet; "
+                            f"'{self.x} m' if they are metres")
 
-    def _judge_signs(self) -> None:
-        """The same of the signs by which an export is written."""
+    def _judge_characters(self) -> None:
+        """Rejects contradictory options for the characters of an export."""
         sign = self.separator
         if sign and (len(sign) > 1 or not sign.isascii() or sign.isalnum() or sign in "\"'.+-\r\n"):
-            raise UserError(f"--separator is one sign, as ; or tab, and not `{sign}`")
+            raise UserError(f"--separator must be one character, as ; or tab, not `{sign}`")
         sign = self.thousands
         if sign not in ("", "blank") and (len(sign) > 1 or sign.isalnum() or sign in "+-"):
-            raise UserError(f"--thousands is one sign, or `blank`, and not `{sign}`")
+            raise UserError(f"--thousands must be one character, or `blank`, not `{sign}`")
         if sign and sign == self.decimal:
             raise UserError(f"--decimal and --thousands are both `{sign}`")
 
     def _judge_masses(self) -> None:
-        """The same of what says tonnes and grades."""
+        """Rejects contradictory options for tonnes and grades."""
         if bool(self.tonnes) == bool(self.density or self.density_by):
             raise UserError("give --tonnes, or a density: --density, --density-by")
         if not self.grade:
             raise UserError("give --grade")
         if bool(self.ore_share) != bool(self.waste_density):
-            raise UserError("give --ore-share and --waste-density together: the rest of a block is "
-                            "waste, and has a mass")
+            raise UserError("give --ore-share and --waste-density together: the remainder of a "
+                            "block is waste, and has a mass")
         if self.waste_share and not self.ore_share:
-            raise UserError("--waste-share goes with --ore-share: the rest of the block is air")
+            raise UserError("--waste-share requires --ore-share: the remainder of the block is air")
         if self.ore_share and self.share:
-            raise UserError("--ore-share beside --share can be a part of the block, or of its "
-                            "rock: give --ore-share and --waste-share as parts of the block, in "
-                            "place of --share")
+            raise UserError("--ore-share with --share can be a part of the block, or of its rock: "
+                            "give --ore-share and --waste-share as parts of the block, in place of "
+                            "--share")
         if self.ore_share and self.tonnes:
-            raise UserError("--ore-share goes with --density, which is that of the ore")
+            raise UserError("--ore-share requires --density, the density of the ore")
 
 
 @dataclass(frozen=True)
 class Measure:
-    """A formula with what its unit is in the unit of `pitc`; `divides` where it is a volume for a
+    """A formula, and the factor from its unit to the unit of `pitc`; `divides` for a volume of a
     mass."""
 
     formula: Formula
@@ -229,7 +228,7 @@ class Measure:
 
     @property
     def plain_column(self) -> Optional[int]:
-        """The column whose cells go through digit for digit, or None."""
+        """Returns the column whose cells are copied digit for digit, or None."""
         return self.formula.plain_column if self.factor == 1 and not self.divides else None
 
 
@@ -278,25 +277,26 @@ class Columns:
 
 
 def measure_of(text: str, kind: str, names: Sequence[str]) -> tuple[Measure, bool]:
-    """A formula with or without a unit behind it, and whether the unit is money a tonne."""
+    """Returns a formula with or without a following unit, and whether the unit is money per
+    tonne."""
     try:
         return Measure(formula_of(text, names)), False
     except UserError as whole:
-        front, _, unit = text.strip().rpartition(" ")
-        if not front or not kind:
+        prefix, _, unit = text.strip().rpartition(" ")
+        if not prefix or not kind:
             raise
         if kind == "grade" and is_money_a_tonne(unit):
-            return Measure(formula_of(front, names), unit=unit), True
+            return Measure(formula_of(prefix, names), unit=unit), True
         factor = factor_of(unit, kind)
         if factor is None:
             try:
-                formula_of(front, names)
+                formula_of(prefix, names)
             except UserError:
                 raise whole from None
-            raise UserError(f"`{unit}` behind `{front}` is no unit of a {kind} that is known, and "
-                            "no formula") from None
+            raise UserError(f"`{unit}` after `{prefix}` is neither a known unit of a {kind} nor "
+                            "part of a formula") from None
         divides = kind == "density" and is_factor(unit)
-        return Measure(formula_of(front, names), factor, unit, divides), False
+        return Measure(formula_of(prefix, names), factor, unit, divides), False
 
 
 def table_of(text: str, value: str, names: Sequence[str]) -> Table:
@@ -310,7 +310,7 @@ def table_of(text: str, value: str, names: Sequence[str]) -> Table:
     header, *records = _records_of(text)
     named = [at for at, name in enumerate(header) if plain_name(name) == value]
     if not named or len(header) < 2:
-        raise UserError(f"{text}: its columns have to be `{value}` and some of the export's")
+        raise UserError(f"{text}: its columns must be `{value}` and some of the export's")
     given = named[-1]
     keys = [at for at in range(len(header)) if at != given]
     rows = [([code_name(record[at]) for at in keys], record[given].strip()) for record in records]
@@ -334,11 +334,11 @@ def _records_of(path: str) -> list[list[str]]:
             if not any(cell.strip() for cell in record):
                 continue
             if records and len(record) != len(records[0]):
-                raise UserError(f"{path}: line {reader.line_num} has {len(record)} cells, and the "
+                raise UserError(f"{path}: line {reader.line_num} has {len(record)} cells, but the "
                                 f"first line {len(records[0])}")
             records.append(record)
     except UnicodeDecodeError:
-        raise UserError(f"{path}: it is no text in UTF-8") from None
+        raise UserError(f"{path}: it is not text in UTF-8") from None
     except csv.Error as error:
         raise UserError(f"{path}: {error}") from None
     if not records:
@@ -353,8 +353,8 @@ def column_of(name: str, names: Sequence[str]) -> int:
 
 
 def columns_of(words: Words, names: Sequence[str]) -> Columns:
-    """The formulas for the columns of a header. Raises Lacking if one has a name that is none
-    of them."""
+    """Returns the formulas for the columns of a header. Raises MissingColumn if the header
+    misses a name."""
     measures: dict[str, Measure] = {}
     is_money, hits = False, 0
     try:
@@ -366,28 +366,29 @@ def columns_of(words: Words, names: Sequence[str]) -> Columns:
         filters = [filter_of(text, names) for text in words.where]
         zones = table_of(words.zones, "zone", names) if words.zones else None
         densities = table_of(words.density_by, "density", names) if words.density_by else None
-    except Lacking as lacking:
-        lacking.hits = hits
+    except MissingColumn as absent:
+        absent.hits = hits
         raise
     return Columns(measures, filters, zone, zones, densities, is_money, unnamed_in(names, words))
 
 
 def filter_of(text: str, names: Sequence[str]) -> Formula:
-    """A filter over these columns."""
+    """Returns a filter over these columns."""
     try:
         formula = formula_of(text, names)
-    except Lacking as lacking:
-        lacking.hint = " (in a filter a text stands between double quotes)"
+    except MissingColumn as absent:
+        absent.hint = " (in a filter put texts between double quotes)"
         raise
     if not formula.is_condition:
-        raise UserError(f"`{text}` compares nothing: a filter is as CLASS <= 3 and ROCK != \"AIR\"")
+        raise UserError(f"`{text}` compares nothing: write a filter as CLASS <= 3 and ROCK != "
+                        "\"AIR\"")
     return formula
 
 
-def unit_doubts(columns: Columns, names: Sequence[str],
-                units: Sequence[Sequence[str]]) -> list[str]:
-    """Where a header or a row of units names another unit than the one by which a column is
-    read."""
+def unit_warnings(columns: Columns, names: Sequence[str],
+                  units: Sequence[Sequence[str]]) -> list[str]:
+    """Yields lines about columns whose header or row of units names a unit other than the one by
+    which they are read."""
     doubts = []
     for key, measure in columns.measures.items():
         at, kind = measure.plain_column, KINDS[key]
@@ -403,7 +404,7 @@ def unit_doubts(columns: Columns, names: Sequence[str],
                               f"is read as {TAKEN[kind]}")
                 break
             if factor not in (None, 1):
-                doubts.append(f"the column {names[at]} says `{unit}`, and is read as "
+                doubts.append(f"the column {names[at]} has the unit `{unit}`, but is read as "
                               f"{TAKEN[kind]}: if it is in {unit}, give --{key.replace('_', '-')} "
                               f"'{names[at]} {unit}'")
                 break
@@ -412,9 +413,9 @@ def unit_doubts(columns: Columns, names: Sequence[str],
 
 def grade_units(columns: Columns, names: Sequence[str], units: Sequence[Sequence[str]],
                 path: str) -> list[str]:
-    """Lines that tell where a header or a row of units names another unit than the one that is
-    given with --grade. Raises UserError if none is given and the named one is no g/t: the
-    metal would be another."""
+    """Returns lines about a header or a row of units whose unit differs from the one given with
+    --grade. Raises UserError if none is given and the named one is not g/t: the metal would be
+    wrong."""
     measure = columns.measures["grade"]
     at = measure.formula.plain_column
     if at is None or columns.is_money:
@@ -423,24 +424,26 @@ def grade_units(columns: Columns, names: Sequence[str], units: Sequence[Sequence
     for text in [names[at], *(row[at] for row in units if at < len(row))]:
         metal = metal_in(text)
         if metal and not measure.unit:
-            raise UserError(f"{path}: the column {name} seems to be metal in {metal}, and no "
-                            f"grade: divide it by the tonnes, as --grade '{name}/TONNES "
+            raise UserError(f"{path}: the column {name} seems to be metal in {metal}, not a grade: "
+                            f"divide it by the tonnes, as --grade '{name}/TONNES "
                             f"{METALS_A_TONNE[metal]}', or give its unit, as '{name} g/t'")
         unit = grade_unit_in(text)
         if not unit:
             continue
         ways = AMBIGUOUS_GRADES.get(unit, [unit])
         if not measure.unit and ways != [unit]:
-            raise UserError(f"{path}: the column {name} says `{unit}`, which is read in two ways: "
-                            f"give --grade '{name} {ways[0]}' or '{name} {ways[1]}'")
+            raise UserError(f"{path}: the column {name} has the unit `{unit}`, which has two "
+                            f"meanings: give --grade '{name} {ways[0]}' or '{name} {ways[1]}'")
         factors = [factor_of(way, "grade") for way in ways]
         if not measure.unit and factors != [1]:
-            raise UserError(f"{path}: the column {name} says `{unit}`, and is read as grams a "
-                            f"tonne: give --grade '{name} {unit}', or '{name} g/t' where it is g/t")
+            raise UserError(f"{path}: the column {name} has the unit `{unit}`, but is read as "
+                            f"grams per tonne: give --grade '{name} {unit}', or '{name} g/t' if it "
+                            "is g/t")
         if measure.factor not in factors:
-            return [f"the column {name} says `{unit}`, and --grade reads it as {measure.unit}"]
+            return [f"the column {name} has the unit `{unit}`, but --grade reads it as "
+                    f"{measure.unit}"]
     return []
 
 
-TAKEN = {"length": "metres", "mass": "tonnes", "density": "tonnes a cubic metre",
-         "volume": "cubic metres", "grade": "grams a tonne", "share": "a share"}
+TAKEN = {"length": "metres", "mass": "tonnes", "density": "tonnes per cubic metre",
+         "volume": "cubic metres", "grade": "grams per tonne", "share": "a share"}

@@ -17,13 +17,13 @@ import pandas as pd
 from pit_tools.errors import UserError
 from pit_tools.texts.decimals import plain
 
-# What means a formula that no program has computed yet.
+# Marks a formula that no program has computed yet.
 UNCOMPUTED = "#not computed"
 
 # Quotes, escapes and brackets of a number format, whose percent signs mean nothing.
 LITERAL = re.compile(r'"[^"]*"|\\.|\[[^\[\]]*\]')
 
-# Places of all sheets at the most: as many as their XML has bytes, or this.
+# The most cells of all sheets: the number of bytes of their XML, or this.
 LEAST_PLACES = 1_000_000
 
 
@@ -32,9 +32,9 @@ def sheets_of(path: str, sheet: str) -> Iterator[tuple[str, pd.DataFrame]]:
     is not there, or the workbook cannot be read."""
     import openpyxl
 
-    # The library goes by a name's ending, and by none where it gets an open file.
+    # The library decides by a name's ending, or opens any file that is passed open.
     with open(path, "rb") as file:
-        with _telling(f"{path}: the workbook"):
+        with _message(f"{path}: the workbook"):
             book = openpyxl.load_workbook(file, read_only=True, data_only=True)
             pages = list(book.worksheets)
         with zipfile.ZipFile(path) as archive:
@@ -42,26 +42,26 @@ def sheets_of(path: str, sheet: str) -> Iterator[tuple[str, pd.DataFrame]]:
         places = Places(path, max(LEAST_PLACES, size))
         names = [page.title for page in pages]
         if sheet and sheet not in names:
-            raise UserError(f"{path}: no sheet `{sheet}`: there are "
+            raise UserError(f"{path}: no sheet `{sheet}`: give "
                             f"{', '.join(f'`{name}`' for name in names)}")
         for page in pages:
             if sheet in ("", page.title):
-                with _telling(f"{path}: the sheet `{page.title}`"):
+                with _message(f"{path}: the sheet `{page.title}`"):
                     texts = _texts_of(page, places)
                 yield page.title, texts
 
 
 @contextmanager
-def _telling(what: str) -> Iterator[None]:
-    """Tells in a line whatever the library raises of a damaged workbook, since it says nowhere what
-    that may be."""
+def _message(what: str) -> Iterator[None]:
+    """Reports in a line whatever the library raises for a damaged workbook, since it does not
+    document its errors."""
     try:
         yield
     except (UserError, MemoryError, ImportError):
         raise
     except Exception as error:  # pylint: disable=broad-except
-        told = " ".join(str(error).split())[:200] or type(error).__name__
-        raise UserError(f"{what} cannot be read: {told}") from None
+        message = " ".join(str(error).split())[:200] or type(error).__name__
+        raise UserError(f"{what} cannot be read: {message}") from None
 
 
 @dataclass
@@ -72,10 +72,11 @@ class Places:
     left: int
 
     def judge(self, title: str, rows: int, columns: int, count: int) -> None:
-        """Stops at a cell so far from the others that there are more places than are left."""
+        """Stops at a cell so far from the others that the sheet would have more cells than may
+        remain."""
         if count > self.left:
-            raise UserError(f"{self.path}: the sheet `{title}` reaches "
-                            f"{cell_name(rows, max(1, columns))}, and most of it is empty: clear "
+            raise UserError(f"{self.path}: the sheet `{title}` extends to "
+                            f"{cell_name(rows, max(1, columns))}, but most of it is empty: clear "
                             "the cells far from the others")
 
 
@@ -112,7 +113,7 @@ def _without_value(page: Any, path: str) -> Iterator[tuple[int, int]]:
     """The row and column, from 0, of each cell with a formula and no value; one of a text may be
     empty."""
     row = column = -1
-    # The library tells by nothing else which part of the archive a sheet is.
+    # The library shows in no other way which part of the archive a sheet is.
     part = page._worksheet_path.lstrip("/")  # pylint: disable=protected-access
     with zipfile.ZipFile(path) as archive, archive.open(part) as content:
         for event, node in ElementTree.iterparse(content, ("start", "end")):
@@ -130,11 +131,11 @@ def _without_value(page: Any, path: str) -> Iterator[tuple[int, int]]:
 
 
 def hidden_rows(path: str, sheet: str) -> list[int]:
-    """The rows of a sheet that are hidden, as by a filter. It raises UserError for cells below the
-    first row that are merged over several rows: of these one alone has a value."""
+    """Returns the rows of a sheet that are hidden, as by a filter. It raises UserError for cells
+    below the first row that are merged over several rows: only one of these has a value."""
     import openpyxl
 
-    with _telling(f"{path}: the sheet `{sheet}`"), open(path, "rb") as file:
+    with _message(f"{path}: the sheet `{sheet}`"), open(path, "rb") as file:
         book = openpyxl.load_workbook(file, read_only=True)
         part = book[sheet]._worksheet_path  # pylint: disable=protected-access
         with zipfile.ZipFile(path) as archive:
@@ -142,8 +143,8 @@ def hidden_rows(path: str, sheet: str) -> list[int]:
     for merged in re.findall(rb'<mergeCell ref="([A-Z]+\d+:[A-Z]+\d+)"', text):
         first, last = (int(number) for number in re.findall(rb"\d+", merged))
         if last > first > 1:
-            raise UserError(f"{path}: sheet `{sheet}`: cells {merged.decode()} are merged, and the "
-                            "first one alone has a value: unmerge them, and fill each row")
+            raise UserError(f"{path}: sheet `{sheet}`: cells {merged.decode()} are merged, so only "
+                            "the first one has a value: unmerge them, and fill each row")
     return [int(row) for tag in re.findall(rb"<row [^>]*>", text)
             if re.search(rb'hidden="(1|true)"', tag) for row in re.findall(rb' r="(\d+)"', tag)]
 
@@ -173,8 +174,8 @@ def _text_of(cell: Any, is_percent: dict[str, bool]) -> str:
     if isinstance(value, (int, float)):
         if isinstance(value, float) and math.isnan(value):
             return ""
-        is_whole = isinstance(value, int) or value.is_integer()
-        text = plain(Decimal(repr(value))) if is_whole else repr(value)
+        is_integer = isinstance(value, int) or value.is_integer()
+        text = plain(Decimal(repr(value))) if is_integer else repr(value)
         shown = cell.number_format
         if shown not in is_percent:
             is_percent[shown] = "%" in LITERAL.sub("", shown)

@@ -1,1 +1,1 @@
-"""What commands read and write on disk: outputs that come together, records of sums, locks."""
+"""Files that commands read and write: outputs that appear together, records of sums, locks."""

@@ -14,7 +14,7 @@ from pit_tools.files.inputs import Command, Identity, Program, identity, looking
 from pit_tools.files.kinds import judge_kind
 from pit_tools.files.raw import Raw, whole, with_name
 from pit_tools.files.records import File, Record, status_of
-from pit_tools.files.renames import (Step, Unfinished, alone_in, beside, created, lies, put_step,
+from pit_tools.files.renames import (Step, Unfinished, alone_in, next_to, created, lies, put_step,
                                      remove, said, sync_folder, take_rights)
 
 
@@ -27,56 +27,57 @@ class Group:
         self.reads: dict[Identity, str] = {}
         #: Of the files that are opened now.
         self.record = ""
-        #: Files that no run may leave beside those of a record, by the path of that.
+        #: Files that must not remain next to those of a record, by the path of that record.
         self.others: dict[str, list[str]] = {}
-        #: Those of them that go.
+        #: Those of them that are removed.
         self.removed: list[str] = []
 
     def note(self, paths: Iterable[str]) -> None:
         self.reads |= {found: path for path in paths if (found := identity(path))}
 
-    def refuse_read(self, place: str, found: Optional[Identity]) -> None:
-        """Refuses to write over a file that is read."""
+    def reject_read(self, place: str, found: Optional[Identity]) -> None:
+        """Rejects an output that is also an input."""
         if Command.now is None and Program.has_read(found):
-            raise UserError(f"{place}: this program has read it, and it would be written over: "
-                            "give another name")
+            raise UserError(f"{place}: this program has read it, and would overwrite it: give "
+                            "another name")
         known = {**self.reads, **(Command.now.reads if Command.now else {})}
         read = known.get(found) if found else None
         if read is not None:
-            told = ("this command reads it" if read == place
-                    else f"it is {read}, which this command reads")
-            raise UserError(f"{place}: {told}, and it would be written over: give another name")
+            message = ("this command reads it" if read == place
+                       else f"it is {read}, which this command reads")
+            raise UserError(f"{place}: {message}, and would be overwritten: give another name")
 
     def begin(self, place: str, kind: str) -> Raw:
-        """Opens the file beside the place of one that is to be written."""
+        """Opens the temporary file for an output."""
         target = os.path.realpath(place)
         status = status_of(target)
         if status and stat.S_ISDIR(status.st_mode):
             raise IsADirectoryError(errno.EISDIR, os.strerror(errno.EISDIR), place)
         if any(one.target == target for one in self.files):
             raise UserError(f"{place}: two files would have this name")
-        self.refuse_read(place, identity(target))
+        self.reject_read(place, identity(target))
         if status:
             self.judge_old(place, target, kind)
         with interrupts.held():
-            return self._made_beside(place, target, status)
+            return self._made_next_to(place, target, status)
 
     def judge_old(self, place: str, target: str, kind: str) -> None:
-        """Refuses to write in place of a file of another kind, or one that may not be written."""
+        """Rejects an output that would replace a file of another kind, or one that is not
+        writable."""
         if not os.access(target, os.W_OK):
             raise PermissionError(errno.EACCES, os.strerror(errno.EACCES), place)
         if Command.now is not None and not Command.now.force:
             with looking():
                 judge_kind(place, target, kind)
 
-    def _made_beside(self, place: str, target: str, old: Optional[os.stat_result]) -> Raw:
+    def _made_next_to(self, place: str, target: str, old: Optional[os.stat_result]) -> Raw:
         mode = stat.S_IMODE(old.st_mode) & 0o777 if old else 0o666
         try:
-            path, descriptor = beside(target, "unfinished", lambda name: created(name, mode))
+            path, descriptor = next_to(target, "unfinished", lambda name: created(name, mode))
         except PermissionError:
             if old:
-                raise UserError(f"{place}: its folder may not be written, where a new file stands "
-                                "until it is whole") from None
+                raise UserError(f"{place}: its folder is not writable, but the new file is first "
+                                "written there: change its mode, or give another folder") from None
             raise PermissionError(errno.EACCES, os.strerror(errno.EACCES), place) from None
         except OSError as error:
             raise with_name(error, place) from None
@@ -87,7 +88,7 @@ class Group:
         return raw
 
     def drop(self, files: Iterable[Unfinished]) -> None:
-        """Takes unfinished files away."""
+        """Removes unfinished files."""
         for one in list(files):
             self.files.remove(one)
             remove(one.path)
@@ -95,7 +96,8 @@ class Group:
     # Records
 
     def _made_records(self) -> dict[str, Record]:
-        """The records of what is about to be put, by their paths: each names more than one file."""
+        """Returns the records of the files about to be put, by their paths: each names more than
+        one file."""
         found: dict[str, Record] = {}
         command, targets = Command.now, [one.target for one in self.files]
         for path in dict.fromkeys(one.record for one in self.files if one.record):
@@ -109,8 +111,8 @@ class Group:
         return found
 
     def _judged_records(self) -> dict[str, Optional[str]]:
-        """The texts of all records that are to be put, by their paths: those of these files, and
-        older ones, which no longer name a file that is replaced; None of one that names no other.
+        """Returns the texts of all records to put, by their paths: those of these files, and older
+        ones, which no longer name a replaced file; None for a record that names no other file.
         """
         made, targets = self._made_records(), {one.target for one in self.files}
         texts: dict[str, Optional[str]] = {path: record.text for path, record in made.items()}
@@ -133,8 +135,8 @@ class Group:
         return texts
 
     def _take_others(self, path: str, named: Sequence[File]) -> None:
-        """Has the files go that an earlier run left beside these; refuses where one was changed
-        since, or nothing says that this tool wrote it."""
+        """Removes the files that an earlier run left next to these; fails if one was changed since,
+        or if no record shows that this tool wrote it."""
         sums = {os.path.abspath(os.path.join(os.path.dirname(path), file.name)): file.sum
                 for file in named}
         targets = [one.target for one in self.files]
@@ -145,9 +147,9 @@ class Group:
             with looking():
                 is_own = target in sums and records.sum_of(target) == sums[target]
             if not is_own and not (Command.now and Command.now.force):
-                raise UserError(f"{place}: it stands beside what is written, and is none of it: "
-                                "move it away, or let --force remove it")
-            self.refuse_read(place, identity(target))
+                raise UserError(f"{place}: it has a name of this output but is not part of it: "
+                                "move it, or give --force to remove it")
+            self.reject_read(place, identity(target))
             targets.append(target)
             self.files.append(Unfinished(place, target, ""))
             self.removed.append(place)
@@ -174,7 +176,7 @@ class Group:
                 held.enter_context(alone_in(above))
             self._write_records()
             for one in self.files:
-                self.refuse_read(one.place, identity(one.target))
+                self.reject_read(one.place, identity(one.target))
             with interrupts.held():
                 self._rename()
                 if Command.now is None:
@@ -194,17 +196,17 @@ class Group:
                 done.append(Step(one, lies(one.target)))
                 put_step(done[-1], len(self.files) > 1)
         except OSError as error:
-            told = [line for line in (step.back() for step in reversed(done)) if line]
-            if told:
-                raise UserError(f"{said(error)}, and the system lets nothing be put back: "
-                                f"{', '.join(reversed(told))}: bring the old files back, or run "
-                                "this again, once it does") from None
+            message = [line for line in (step.back() for step in reversed(done)) if line]
+            if message:
+                raise UserError(f"{said(error)}, and the former files cannot be restored: "
+                                f"{', '.join(reversed(message))}: move the old files back, or run "
+                                "this again, once the system permits") from None
             raise error
         for step in done:
             remove(step.kept)
 
     def clear(self) -> None:
-        """Takes all away that was begun."""
+        """Removes all that was begun."""
         self.drop(self.files)
         for made in reversed(self.folders):
             try:

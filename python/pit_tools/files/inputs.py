@@ -1,4 +1,4 @@
-"""What a command or a program reads: nothing is written over it, and records of sums judge it."""
+"""The inputs of a command or a program: no output replaces them, and records of sums judge them."""
 from __future__ import annotations
 
 import os
@@ -16,17 +16,17 @@ Name = Union[str, bytes, "os.PathLike[str]", "os.PathLike[bytes]"]
 
 
 def identity(path: Name) -> Optional[Identity]:
-    """What a regular file is, by whichever of its names; None of all else. Raises OSError if
-    the system does not say."""
+    """Returns what identifies a regular file under any of its names; None for anything else. Raises
+    OSError if the system does not report it."""
     status = status_of(os.fsdecode(path))
     return (status.st_dev, status.st_ino) if status and stat.S_ISREG(status.st_mode) else None
 
 
 class Command:
-    """The command that runs, by its name: what it has read, and whether it may replace other
+    """The running command, by its name: what it has read, and whether it may replace other
     files."""
 
-    #: The one that runs now, and whether Python calls `_hook` already.
+    #: The command that runs now, and whether Python calls `_hook` already.
     now: Optional[Command] = None
     is_hooked = False
 
@@ -43,7 +43,7 @@ class Command:
 
 
 def _hook(event: str, arguments: tuple[Any, ...]) -> None:
-    """Python calls it for each file that it opens, so that no command forgets one."""
+    """Python calls this for each file that it opens, so that no command misses one."""
     command = Command.now
     if event == "open" and command is not None:
         path, _, flags = arguments
@@ -52,8 +52,8 @@ def _hook(event: str, arguments: tuple[Any, ...]) -> None:
 
 
 class Program:
-    """A program that calls this package and runs no command: what it has read, and what it has
-    written, which it may write anew."""
+    """The files of a program that calls this package and runs no command: what it has read, and
+    what it has written, which it may overwrite."""
 
     reads: dict[Identity, str] = {}
     written: dict[Identity, str] = {}
@@ -67,15 +67,15 @@ class Program:
 
     @classmethod
     def has_read(cls, found: Optional[Identity]) -> bool:
-        """Whether it has read a file, which is still there under its name."""
+        """Returns whether it has read a file that still exists under its name."""
         return bool(found) and found in cls.reads and identity(cls.reads[found]) == found
 
 
 @contextmanager
 def of_command(force: bool = False, is_edited: bool = False, name: str = "") -> Iterator[None]:
-    """Within it each file that is opened to read is one that nothing may be written over, and
-    a file is replaced only by one of its kind, but with `force`. Inputs must be those that
-    records name, but with `is_edited`."""
+    """Within this, no output may replace a file that was opened for reading, and a file is replaced
+    only by one of its kind, except with `force`. Inputs must be those that records name, except
+    with `is_edited`."""
     if not Command.is_hooked:
         sys.addaudithook(_hook)
         Command.is_hooked = True
@@ -88,7 +88,7 @@ def of_command(force: bool = False, is_edited: bool = False, name: str = "") -> 
 
 @contextmanager
 def looking() -> Iterator[None]:
-    """What is opened within, to see what it is, may be replaced all the same."""
+    """Within this, files that are opened to identify them may still be replaced."""
     command = Command.now
     before = command is not None and command.is_looking
     if command is not None:
@@ -101,10 +101,10 @@ def looking() -> Iterator[None]:
 
 
 def reads(*paths: str) -> None:
-    """Says that the command reads these inputs, itself or by another program: what it writes is
-    made of them.
+    """Declares that the command reads these inputs, itself or by another program: its outputs are
+    made from them.
 
-    Raises UserError if records say that they are of different runs."""
+    Raises UserError if records show that they are from different runs."""
     command = Command.now
     if command is None:
         Program.note(paths)
@@ -115,8 +115,8 @@ def reads(*paths: str) -> None:
                 command.reading.take(path)
 
 
-def content_of(path: str, most: int, told: str) -> bytes:
-    """All bytes of a file that the command reads.
+def content_of(path: str, most: int, message: str) -> bytes:
+    """Returns all bytes of a file that the command reads.
 
     Raises UserError, which ends with these words, if it has more than `most`; OSError if it cannot
     be read."""
@@ -124,22 +124,23 @@ def content_of(path: str, most: int, told: str) -> bytes:
     with open(path, "rb") as file:
         content = file.read(most + 1)
     if len(content) > most:
-        raise UserError(f"{path}: it has more than {most:,} bytes{told}")
+        raise UserError(f"{path}: it has more than {most:,} bytes{message}")
     return content
 
 
-def looks_beside(base: str) -> None:
-    """Says that the command reads an instance: what --edited let pass when that was made passes."""
+def reads_records_of(base: str) -> None:
+    """Declares that the command reads an instance: inputs that --edited accepted when that was made
+    are accepted."""
     if Command.now is not None:
         with looking():
-            Command.now.reading.look_beside(base)
+            Command.now.reading.read_records_of(base)
 
 
 def edited() -> Sequence[str]:
-    """What was read by the command although a record names another file, in a line each."""
+    """Returns a line for each file that the command read although a record names another one."""
     return Command.now.reading.edited if Command.now is not None else ()
 
 
 def removed() -> Sequence[str]:
-    """The files of earlier runs that the command has removed beside what it wrote."""
+    """Returns the files of earlier runs that the command has removed next to its outputs."""
     return Command.now.removed if Command.now is not None else ()

@@ -1,7 +1,7 @@
-"""Ctrl-C, TERM and HUP while files are being written: what is unfinished is taken away first.
+"""Handles Ctrl-C, TERM and HUP while files are being written: unfinished files are removed first.
 
-Outside of `caught` they do what they do everywhere. Within it each raises an exception, so that
-who cleans up is called; and within `held` they wait, so that a step which must be whole is whole.
+Outside `caught` they have their usual effect. Within it each raises an exception, so that clean-up
+code runs; and within `held` they wait, so that a step that must be complete is complete.
 """
 from __future__ import annotations
 
@@ -36,9 +36,9 @@ def _take(number: int, _frame: object) -> None:
 
 @contextmanager
 def taken(take: Callable[[int, object], object]) -> Iterator[None]:
-    """Signals that would end the program are handed to a function, as `signal.signal` does it. One
-    that is ignored, as behind nohup, or that the program takes itself stays so; and in a thread
-    beside the first nothing changes."""
+    """Passes signals that would end the program to a function, as `signal.signal` does. A signal
+    that is ignored, as after nohup, or that the program handles itself, stays so; and in a thread
+    other than the first nothing changes."""
     usual = {}
     try:
         for number in SIGNALS:
@@ -62,7 +62,7 @@ def caught() -> Iterator[None]:
 
 @contextmanager
 def held() -> Iterator[None]:
-    """Signals wait for the end of this step, and raise their exception behind it."""
+    """Delays signals to the end of this step, where they raise their exception."""
     _Held.steps += 1
     try:
         yield

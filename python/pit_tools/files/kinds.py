@@ -1,4 +1,4 @@
-"""How files of each kind begin, so that a command replaces no file of another kind."""
+"""The beginnings of files of each kind, so that a command replaces no file of another kind."""
 from __future__ import annotations
 
 import os
@@ -46,19 +46,19 @@ KINDS = {
     "build of a batch": rb"[^\n]*\n[0-9a-f]{64}  pitc\n",
 }
 
-#: Names that are of one kind, so that no file of another kind takes their place.
+#: Names that have one kind, so that no file of another kind replaces them.
 ENDINGS = {".plan": "plan", ".blocks": "blocks", ".prec": "prec", ".upit": "model",
            ".cpit": "model", ".pcpsp": "model", ".thin": "prec"}
 
 #: How much of an old file is looked at: more than the longest header.
-FRONT = 1 << 20
+PREFIX = 1 << 20
 
 
 def judge_kind(place: str, target: str, kind: str) -> None:
-    """Refuses to write a file in place of one of another kind, but of an empty one."""
+    """Rejects an output that would replace a file of another kind, except an empty one."""
     with open(target, "rb") as file:
-        front = file.read(FRONT)
+        prefix = file.read(PREFIX)
     of_name = ENDINGS.get(os.path.splitext(target)[1].lower(), kind)
-    if front and (of_name != kind or not re.match(KINDS[kind], front, re.DOTALL)):
+    if prefix and (of_name != kind or not re.match(KINDS[kind], prefix, re.DOTALL)):
         raise UserError(f"{place}: the file there is of another kind than `{kind}`: --force "
                         "replaces it")

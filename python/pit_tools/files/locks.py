@@ -1,6 +1,6 @@
-"""Locks of files, and of the base of an instance that pitc writes. The system lifts them when the
-process ends, in whichever way. Where a file system has none, nothing is held: records alone tell a
-mixture."""
+"""Locks of files, and of the base of an instance that pitc writes. The system releases them when
+the process ends, for any cause. Without locks in a file system, nothing is locked: only records
+reveal a mixture."""
 from __future__ import annotations
 
 import errno
@@ -24,9 +24,9 @@ def held(base: str) -> Iterator[None]:
                                    f"{base}: another command writes this instance: wait for its "
                                    "end")
             except OSError as error:
-                raise UserError(f"{base}: its folder cannot be written ({error.strerror}), where "
-                                "the lock and the record of sums are: let it be written, or name "
-                                "another place; `pitc compile` itself has neither") from None
+                raise UserError(f"{base}: the lock and the record of sums cannot be written in its "
+                                f"folder ({error.strerror}): make it writable, or name another "
+                                "place; `pitc compile` itself needs neither") from None
             try:
                 if os.path.samestat(os.fstat(descriptor), os.stat(path)):
                     break
@@ -36,14 +36,14 @@ def held(base: str) -> Iterator[None]:
         yield
 
 
-def lock(opened: ExitStack, path: str, how: int, told: str) -> int:
-    """Opens a file and locks it; returns its descriptor, which is closed with those opened."""
+def lock(opened: ExitStack, path: str, how: int, message: str) -> int:
+    """Opens a file and locks it; returns its descriptor, which is closed with `opened`."""
     descriptor = os.open(path, os.O_RDWR | os.O_CREAT | os.O_CLOEXEC, 0o666)
     opened.callback(os.close, descriptor)
     try:
         fcntl.flock(descriptor, how | fcntl.LOCK_NB)
     except BlockingIOError:
-        raise UserError(told) from None
+        raise UserError(message) from None
     except OSError as error:
         if error.errno not in (errno.ENOLCK, errno.EOPNOTSUPP, errno.ENOSYS):
             raise

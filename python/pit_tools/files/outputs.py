@@ -1,20 +1,19 @@
-"""The one door for all that a command writes.
+"""The only module through which commands write files.
 
     with outputs.together():
         with outputs.opened("k1.pit", "pit") as first, outputs.opened("k2.pit", "pit") as second:
             ...
 
-A file is written beside its place, as NAME.unfinished-PROCESS, and put there by a rename when all
-of it lies on the disk. The files of one `together` come together, or none does; an old file is
-kept meanwhile as NAME.before-PROCESS, and comes back where a later one cannot be put in its
-place. Both names stay where the process is killed, or where the system lets nothing be put back,
-which is reported. One command at a time puts files into a folder. Of several files a record is
-put last (pit_tools.files.records), which tells a mixture of two runs to whoever reads one of
-them.
+A file is written next to its final name, as NAME.unfinished-PROCESS, and renamed when all of it is
+on the disk. The files of one `together` appear together, or none does; an old file is kept
+meanwhile as NAME.before-PROCESS, and is restored if a later one cannot be renamed. Both names
+remain if the process is killed, or if a file cannot be restored, which is reported. One command at
+a time renames files in a folder. After several files a record is put last
+(pit_tools.files.records), which reveals a mixture of two runs to each reader.
 
-Nothing is written over what the command reads, by whichever name or link. A link stays a link: the
-file that it leads to is replaced. A device or a pipe is written through. Of a file with several
-names by hard links the one name gets the new file.
+No output replaces an input of the command, under any name or link. A link stays a link: its target
+is replaced. A device or a pipe is written directly. If a file has several names by hard links, only
+the given name gets the new file.
 """
 from __future__ import annotations
 
@@ -40,14 +39,14 @@ _here = threading.local()
 @contextmanager
 def together(reading: Iterable[str] = (), record: str = "",
              others: Optional[Iterable[str]] = None) -> Iterator[None]:
-    """The files that are opened within come together at its end, or none does where an exception
-    leaves it. One `together` within another is a part of that. `reading` are files that are read
-    where no command runs, which knows its own.
+    """The files that are opened within appear together at its end, or none does if an exception
+    leaves it. One `together` within another is a part of that. `reading` names the files that are
+    read, if no command runs, which knows its own.
 
-    In a command a record RECORD.sums comes last if there are several files. With `others`,
-    names that belong beside the same base, none of these and none that the record named before
-    stays unless it is written: what was changed since, or was never of a record, is refused,
-    but with `force` removed."""
+    In a command a record RECORD.sums is written last if there are several files. With `others`,
+    names that belong to the same base, none of these and none that the record named before remains
+    unless it is written: a file that was changed since, or was never in a record, is an error, but
+    removed with `force`."""
     group = getattr(_here, "group", None)
     if group is not None:
         group.note(reading)
@@ -69,7 +68,7 @@ def together(reading: Iterable[str] = (), record: str = "",
 
 @contextmanager
 def _recorded(group: Group, record: str, others: Optional[Iterable[str]]) -> Iterator[None]:
-    """Has files be of a record, of a command alone: a program in Python has none."""
+    """Puts files into a record, in a command only: a program in Python has none."""
     above, name = os.path.split(record + records.ENDING)
     before, path = group.record, os.path.join(os.path.realpath(above), name)
     if record and before in ("", path) and Command.now is not None:
@@ -84,7 +83,7 @@ def _recorded(group: Group, record: str, others: Optional[Iterable[str]]) -> Ite
 
 @contextmanager
 def alone() -> Iterator[None]:
-    """What is opened within does not wait for the `together` around it."""
+    """Files that are opened within do not wait for the `together` around it."""
     group = getattr(_here, "group", None)
     _here.group = None
     try:
@@ -96,14 +95,14 @@ def alone() -> Iterator[None]:
 @contextmanager
 def opened(place: str, kind: str, encoding: Optional[str] = None,
            newline: str = "\n") -> Iterator[IO]:
-    """A file to be written, of bytes, or of text where an encoding is given. It comes to its place
-    at the end of the `together` around it, or at its own end.
+    """A file to write, of bytes, or of text if an encoding is given. It gets its name at the end of
+    the `together` around it, or at its own end.
 
     Raises UserError if the command reads that file, another kind of file is there, or the name is
-    that of a standard stream; OSError, with the name, for all that the system refuses.
+    that of a standard stream; OSError, with the name, if a system call fails.
     """
     if place == "-":
-        raise UserError("-: this goes to a file alone: give its name, ./- if that is meant")
+        raise UserError("-: the output must be a file: give its name, ./- for a file named -")
     descriptor = descriptor_of(place)
     if descriptor is not None or is_written_through(place):
         with _written_through(place, descriptor) as raw:
@@ -125,7 +124,7 @@ def opened(place: str, kind: str, encoding: Optional[str] = None,
 
 @contextmanager
 def _written_through(place: str, descriptor: Optional[int]) -> Iterator[Raw]:
-    """A device, a pipe or an open file of this process, which is no file of its own."""
+    """A device, a pipe or an open file of this process, not a regular file."""
     if descriptor is None:
         yield Raw(os.open(place, os.O_WRONLY | os.O_CLOEXEC), place)
         return
@@ -133,7 +132,7 @@ def _written_through(place: str, descriptor: Optional[int]) -> Iterator[Raw]:
         sys.stdout.flush()
     raw = Raw(os.dup(descriptor), place)
     status = os.fstat(raw.fileno())
-    Group().refuse_read(place,
+    Group().reject_read(place,
                          (status.st_dev, status.st_ino) if stat.S_ISREG(status.st_mode) else None)
     yield raw
 
@@ -141,7 +140,7 @@ def _written_through(place: str, descriptor: Optional[int]) -> Iterator[Raw]:
 @contextmanager
 def opened_or_printed(place: Optional[str], kind: str, encoding: str,
                       newline: str = "\n") -> Iterator[IO]:
-    """The same as text, or standard output where no place or `-` is given."""
+    """Returns the same as text, or standard output if no place or `-` is given."""
     if place and place != "-":
         with opened(place, kind, encoding, newline) as file:
             yield file
@@ -151,7 +150,7 @@ def opened_or_printed(place: Optional[str], kind: str, encoding: str,
     except (OSError, ValueError):
         status = None
     if status and stat.S_ISREG(status.st_mode):
-        Group().refuse_read("standard output", (status.st_dev, status.st_ino))
+        Group().reject_read("standard output", (status.st_dev, status.st_ino))
     if isinstance(sys.stdout, io.TextIOWrapper):
         sys.stdout.reconfigure(encoding=encoding, newline=newline)
     yield sys.stdout
@@ -193,26 +192,26 @@ def copied(source: str, place: str, kind: str) -> None:
 
 
 def judged(*places: Optional[str]) -> None:
-    """Refuses early what would be written over a file that is read, before a long computation."""
+    """Rejects early, before a long computation, an output that would replace an input."""
     for place in filter(None, places):
-        Group().refuse_read(place, identity(os.path.realpath(place)))
+        Group().reject_read(place, identity(os.path.realpath(place)))
 
 
 def judged_old(place: str, kind: str) -> None:
-    """Refuses early what would be written in place of a file of another kind."""
+    """Rejects early an output that would replace a file of another kind."""
     target = os.path.realpath(place)
     if status_of(target):
         Group().judge_old(place, target, kind)
 
 
 def folder(path: str) -> None:
-    """Makes a folder with those above it, if it is not there; within a `together` that fails
-    it goes again, if it is empty."""
-    path, lacking = os.path.abspath(path), []
+    """Makes a folder with its parents, if it does not exist; if the `together` fails, it is removed
+    again if it is empty."""
+    path, absent = os.path.abspath(path), []
     while not os.path.isdir(path):
-        lacking.append(path)
+        absent.append(path)
         path = os.path.dirname(path)
-    for one in reversed(lacking):
+    for one in reversed(absent):
         os.mkdir(one)
         if getattr(_here, "group", None) is not None:
             _here.group.folders.append(one)

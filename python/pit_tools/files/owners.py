@@ -1,6 +1,6 @@
-"""Which files and folders are this user's own: code is run from no others.
+"""The files and folders that are this user's own: code is run from no others.
 
-It imports what Python has alone, since the launcher asks it before packages are found.
+It imports only modules of Python, since the launcher uses it before packages are found.
 """
 import grp
 import os
@@ -9,7 +9,8 @@ import stat
 
 
 def is_own(path: str, kind: int) -> bool:
-    """Whether a path is a folder or a file of this user, no link, which nobody else may write."""
+    """Returns whether a path is a folder or a file of this user, not a link, which nobody else may
+    write."""
     try:
         status = os.lstat(path)
     except OSError:
@@ -19,8 +20,8 @@ def is_own(path: str, kind: int) -> bool:
 
 
 def _lets_others(status: os.stat_result) -> bool:
-    """Whether others than its owner may write in a folder: all, or a group that is not the user's
-    own, which has the user's name."""
+    """Returns whether others than its owner may write in a folder: all, or a group that is not the
+    user's own, which has the user's name."""
     if status.st_mode & 0o002:
         return True
     try:
@@ -31,7 +32,7 @@ def _lets_others(status: os.stat_result) -> bool:
 
 
 def nobody_moves(folder: str) -> bool:
-    """Whether no folder above lets others put another one in the place of this one."""
+    """Returns whether no folder above lets others replace this one."""
     while True:
         status = os.stat(folder)
         if status.st_uid not in (0, os.geteuid()) or (_lets_others(status)
@@ -43,8 +44,8 @@ def nobody_moves(folder: str) -> bool:
 
 
 def may_add(folder: str) -> bool:
-    """Whether Python may look for packages in the folder of a user, and run its `.pth` files: the
-    folder and these are the user's own, and others write to none of them."""
+    """Returns whether Python may look for packages in the folder of a user, and run its `.pth`
+    files: the folder and these are the user's own, and others write to none of them."""
     try:
         real = os.path.realpath(folder)
         status = os.stat(real)

@@ -13,8 +13,8 @@ from pit_tools.texts.decimals import plain
 #: How a file begins.
 MARK = b"PAR1"
 
-LACKING = ("no package is there that reads and writes Parquet: install pyarrow (python3 -m pip "
-           "install pyarrow)")
+NO_PARQUET = ("no package that reads and writes Parquet is installed: install pyarrow (python3 -m "
+              "pip install pyarrow)")
 
 
 def frame_of(path: str) -> pd.DataFrame:
@@ -23,21 +23,22 @@ def frame_of(path: str) -> pd.DataFrame:
     try:
         frame = pd.read_parquet(path)
     except ImportError:
-        raise UserError(f"{path}: it is a Parquet file, and {LACKING}, or export as CSV") from None
+        raise UserError(f"{path}: it is a Parquet file, and {NO_PARQUET}, or export as "
+                        "CSV") from None
     except MemoryError:
         raise
     except Exception as error:  # pylint: disable=broad-except
-        # Packages say nowhere what they raise of a damaged file.
-        told = " ".join(str(error).split())[:200] or type(error).__name__
-        raise UserError(f"{path}: the Parquet file cannot be read: {told}") from None
+        # Packages do not document what they raise for a damaged file.
+        message = " ".join(str(error).split())[:200] or type(error).__name__
+        raise UserError(f"{path}: the Parquet file cannot be read: {message}") from None
     if any(name is not None for name in frame.index.names):
         frame = frame.reset_index()
     return frame.rename(columns=str).reset_index(drop=True)
 
 
 def texts_of(frame: pd.DataFrame) -> pd.DataFrame:
-    """The cells as texts, as a CSV file of the same columns has them: the shortest decimals of
-    numbers, and an empty text where nothing is known."""
+    """Returns the cells as texts, as a CSV file of the same columns has them: the shortest decimals
+    of numbers, and an empty text for a missing value."""
     return frame.apply(_texts_of)
 
 
@@ -69,9 +70,9 @@ def bytes_of(frame: pd.DataFrame) -> bytes:
     one name."""
     names = frame.columns[frame.columns.duplicated()]
     if len(names):
-        raise UserError(f"the export has a column `{names[0]}` already, and Parquet takes a name "
-                        "once: rename it in the export, and import again")
+        raise UserError(f"the export has a column `{names[0]}` already, but in Parquet each name "
+                        "is unique: rename it in the export, and import again")
     try:
         return bytes(frame.to_parquet(index=False))
     except ImportError:
-        raise UserError(LACKING) from None
+        raise UserError(NO_PARQUET) from None

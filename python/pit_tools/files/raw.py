@@ -1,4 +1,4 @@
-"""Files that are open to be written, whose faults have their names."""
+"""Files that are open for writing, whose errors have their names."""
 from __future__ import annotations
 
 import errno
@@ -32,12 +32,12 @@ def is_written_through(place: str) -> bool:
 
 
 def with_name(error: OSError, place: str) -> OSError:
-    """The same fault with the name of the file that was to be written."""
+    """Returns the same error with the name of the output."""
     return OSError(error.errno, error.strerror or str(error), place)
 
 
 class Raw(io.FileIO):
-    """A file whose faults have its name, and whose sum is taken while it is written; `sum` is
+    """A file whose errors have its name, and whose sum is computed while it is written; `sum` is
     None if it was written in another order, as an archive is."""
 
     def __init__(self, descriptor: int, place: str, is_summed: bool = False):
@@ -68,7 +68,7 @@ def _over(raw: Raw, encoding: Optional[str], newline: str) -> IO[Any]:
 
 @contextmanager
 def whole(raw: Raw, encoding: Optional[str], newline: str) -> Iterator[IO]:
-    """Lends a file, and sees that all of it is written."""
+    """Returns a reference to a file, and checks that all of it is written."""
     file = _over(raw, encoding, newline)
     try:
         yield file
@@ -80,12 +80,12 @@ def whole(raw: Raw, encoding: Optional[str], newline: str) -> Iterator[IO]:
         except OSError as error:
             raise with_name(error, raw.place) from None
     finally:
-        # What is not flushed is not wanted.
+        # What is not flushed is not needed.
         raw.close()
 
 
 def synced(descriptor: int, place: str) -> None:
-    """Waits until a file lies on the disk: full disks elsewhere are reported only then."""
+    """Waits until a file is on the disk: only then are full disks elsewhere reported."""
     try:
         os.fsync(descriptor)
     except OSError as error:

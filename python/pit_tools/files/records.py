@@ -1,4 +1,4 @@
-"""Records of what a command wrote, by which the next one sees whether files belong together.
+"""Records of what a command wrote, by which the next command checks whether files belong together.
 
     # {"tool": "pit-tools 0.2.0", "command": "import", "inputs": 1, "bytes": [81, 79, 1200, 400]}
     SUM  from-east.csv
@@ -6,10 +6,11 @@
     SUM  from.json
     SUM  export.csv
 
-A record is written after all that it names. `sha256sum -c` reads it in its folder. The outputs come
-first, and the inputs last; names are relative to the record's folder. A record is NAME.sums, or the
-MANIFEST of a batch, or the SUMS of the library. A file that no record names passes unjudged. Where
---edited let inputs pass, "edited" has for each its sum and that of the record that it does not fit.
+A record is written after all files that it names. `sha256sum -c` reads it in its folder. The
+outputs are first, and the inputs last; names are relative to the record's folder. A record is
+NAME.sums, or the MANIFEST of a batch, or the SUMS of the library. A file that no record names is
+accepted. If --edited accepted inputs, "edited" has for each its sum and the differing sum of the
+record.
 """
 from __future__ import annotations
 
@@ -27,7 +28,7 @@ from pit_tools.errors import UserError
 
 ENDING = ".sums"
 
-#: Names of records, whole or not yet put in their place.
+#: Names of records, complete or not yet renamed.
 _NAMED = re.compile(r"(?:.*\.sums|MANIFEST|SUMS)(?:\.unfinished-[\d.]+)?", re.DOTALL)
 
 _BEGINS = '# {"tool": "pit-tools '
@@ -40,14 +41,14 @@ def sum_of(path: str) -> str:
     """The SHA-256 of a file, in hexadecimal digits."""
     found = hashlib.sha256()
     with open(path, "rb") as file:
-        while piece := file.read(1 << 20):
-            found.update(piece)
+        while chunk := file.read(1 << 20):
+            found.update(chunk)
     return found.hexdigest()
 
 
 def status_of(path: str) -> Optional[os.stat_result]:
-    """The status of what a name leads to, None if nothing is there. Unlike os.path.exists it raises
-    OSError, with the name, if the system does not say."""
+    """Returns the status of the target of a name, None if nothing exists there. Unlike
+    os.path.exists it raises OSError, with the name, if the system does not report it."""
     try:
         return os.stat(path)
     except (FileNotFoundError, NotADirectoryError):
@@ -55,13 +56,13 @@ def status_of(path: str) -> Optional[os.stat_result]:
 
 
 def is_unfinished(path: str) -> bool:
-    """Whether a name is that of a file that is not in its place yet."""
+    """Returns whether a name belongs to an unfinished file."""
     return re.search(r"\.unfinished-\d+(\.\d+)?$", path) is not None
 
 
 def read_json(path: str, errors: str = "strict") -> Any:
-    """What a file of JSON in UTF-8 says. Raises ValueError or RecursionError for one that says
-    nothing or has more than 16 MB, OSError if it cannot be read."""
+    """Returns the value of a JSON file in UTF-8. Raises ValueError or RecursionError for any other
+    text or more than 16 MB, OSError if it cannot be read."""
     with open(path, "rb") as file:
         content = file.read(MOST_JSON + 1)
     if len(content) > MOST_JSON:
@@ -85,14 +86,14 @@ class File:
 
     @property
     def line(self) -> str:
-        """Its line, as `sha256sum` writes it: if the name has a backslash or a line end, these are
-        spelled, and the line begins with a backslash."""
-        spelled = self.name.replace("\\", "\\\\").replace("\n", "\\n")
-        return f"{'' if spelled == self.name else chr(92)}{self.sum}  {spelled}\n"
+        """Returns its line, as `sha256sum` writes it: a backslash or a line end in the name is
+        escaped, and the line then begins with a backslash."""
+        encoded = self.name.replace("\\", "\\\\").replace("\n", "\\n")
+        return f"{'' if encoded == self.name else chr(92)}{self.sum}  {encoded}\n"
 
     @classmethod
     def of_line(cls, line: str, size: int) -> File:
-        """A file by its line. Raises ValueError if it is none."""
+        """Returns a file from its line. Raises ValueError for any other text."""
         found = re.fullmatch(r"(\\?)([0-9a-f]{64})  (.+)", line)
         if found is None or not isinstance(size, int):
             raise ValueError(line)
@@ -104,8 +105,8 @@ class File:
 
 @dataclass(frozen=True)
 class Record:
-    """What a command wrote, and what of; `edited` has the sums of inputs that --edited let pass,
-    each with that of the record that it does not fit."""
+    """What a command wrote, and from what; `edited` has the sums of inputs that --edited accepted,
+    each with the differing sum of the record."""
 
     path: str
     command: str
@@ -132,7 +133,7 @@ class Record:
 
     @property
     def is_put(self) -> bool:
-        """Whether it is in its place, so that all that it names is."""
+        """Returns whether it is in place, and so all files that it names are."""
         return not is_unfinished(self.path)
 
     def at(self, file: File) -> str:
@@ -141,7 +142,7 @@ class Record:
 
 
 def read_record(path: str) -> Optional[Record]:
-    """The record at a path, None if another file is there, or none.
+    """Returns the record at a path, None if there is another file or none.
 
     Raises UserError if the record is damaged, OSError if it cannot be read."""
     status = status_of(path)
@@ -151,7 +152,7 @@ def read_record(path: str) -> Optional[Record]:
         if file.read(len(_BEGINS)) != _BEGINS:
             return None
         if status.st_size > MOST_BYTES:
-            raise UserError(f"{path}: it has more than {MOST_BYTES:,} bytes, so it is no record "
+            raise UserError(f"{path}: it has more than {MOST_BYTES:,} bytes, so it is not a record "
                             "of sums: remove it")
         first, _, rest = (_BEGINS + file.read()).partition("\n")
     lines = rest.split("\n")
@@ -170,12 +171,12 @@ def read_record(path: str) -> Optional[Record]:
 
 
 def records_in(folder: str, is_replacing: bool = False) -> Iterator[Record]:
-    """The records in a folder. One that is damaged or cannot be read raises UserError; it is
-    omitted where it may be replaced, or where a run was ended while writing it."""
+    """Returns the records in a folder. One that is damaged or cannot be read raises UserError; it
+    is omitted if it may be replaced, or if a run was ended while writing it."""
     try:
         names = os.listdir(folder)
     except PermissionError:
-        # Files may be read by name where their folder may not be listed.
+        # Files may be readable by name although their folder may not be listed.
         return
     for name in sorted(filter(_NAMED.fullmatch, names)):
         path = os.path.join(folder, name)
@@ -186,8 +187,8 @@ def records_in(folder: str, is_replacing: bool = False) -> Iterator[Record]:
                 continue
             if isinstance(error, UserError):
                 raise
-            raise UserError(f"{path}: this record of sums cannot be read ({error.strerror}): let "
-                            "it be read, or move it away") from None
+            raise UserError(f"{path}: this record of sums cannot be read ({error.strerror}): make "
+                            "it readable, or move it away") from None
         if found is not None:
             yield found
 
@@ -201,7 +202,7 @@ class _Read:
     sum: str = ""
 
     def as_read(self) -> bool:
-        """Whether it still is the file that was read."""
+        """Returns whether it still is the file that was read."""
         now = status_of(self.path)
         return now is not None and all(
             getattr(now, name) == getattr(self.status, name)
@@ -209,9 +210,9 @@ class _Read:
 
 
 class Reading:
-    """What a command reads, judged by the records beside it. What does not fit passes with
-    `is_edited`, or where a record says that it passed before; `edited` has a line for each, and
-    `passed` what a new record says of it."""
+    """The inputs of a command, judged by the records next to them. A mismatch is accepted with
+    `is_edited`, or if a record shows that it was accepted before; `edited` has a line for each, and
+    `passed` what a new record lists for it."""
 
     def __init__(self, is_edited: bool):
         self.is_edited = is_edited
@@ -225,7 +226,7 @@ class Reading:
     def take(self, path: str) -> None:
         """Judges a file before it is read.
 
-        Raises UserError if a record names another file, OSError if the system refuses."""
+        Raises UserError if a record names another file, OSError if a system call fails."""
         status, at = status_of(path), os.path.realpath(path)
         if status is None or not stat.S_ISREG(status.st_mode) or at in self._read:
             return
@@ -235,23 +236,24 @@ class Reading:
         put = [record for record in fitting if record.is_put]
         others = [record for record, _ in named if record.is_put]
         if fitting and not put:
-            self._refuse(at, f"{path}: it is of a run that was cut short, or has not ended, as "
-                         f"{_plain(fitting[0].path)} shows", fitting[0])
+            self._reject(at, f"{path}: it is from a run that was cut short, or has not ended, as "
+                             f"{_plain(fitting[0].path)} shows", fitting[0])
         elif others and not put:
-            self._refuse(at, f"{path}: it is not the file that {_plain(others[0].path)} names, "
-                         "which was changed, or a run was cut short", others[0])
+            self._reject(at, f"{path}: it is not the file that {_plain(others[0].path)} names: it "
+                             "was changed, or a run was cut short", others[0])
         new = {record.path: record for record in put if record.path not in self._used}
         self._used |= new
         self._judge_inputs(new.values(), self._read)
         self._judge_inputs([one for one in self._used.values() if one.path not in new], [at])
 
-    def look_beside(self, base: str) -> None:
-        """Learns what passed when the files of a base were made, before any other file is read."""
+    def read_records_of(self, base: str) -> None:
+        """Reads what was accepted when the files of a base were made, before any other file is
+        read."""
         with suppress(UserError, OSError):
             self._named(os.path.realpath(base))
 
     def _named(self, at: str) -> list[tuple[Record, File]]:
-        """The records beside a file that name it as an output."""
+        """Returns the records next to a file that name it as an output."""
         folder = os.path.dirname(at)
         if folder not in self._by_output:
             found: dict[str, list[tuple[Record, File]]] = {}
@@ -274,25 +276,25 @@ class Reading:
         return read.sum
 
     def _judge_inputs(self, records: Iterable[Record], read: Iterable[str]) -> None:
-        """Compares inputs of records with what is read."""
+        """Compares inputs of records with the files that are read."""
         among = set(read)
         for record in records:
             for file in record.inputs:
                 at = record.at(file)
                 if at in among and not self._fits(at, file):
-                    self._refuse(at, f"{self._read[at].path}: it is not the file, or no longer, "
-                                 f"of which {_shown(record)} was made", record)
+                    self._reject(at, f"{self._read[at].path}: it is not, or is no longer, the file "
+                                     f"from which {_shown(record)} was made", record)
 
-    def _refuse(self, at: str, told: str, record: Record) -> None:
+    def _reject(self, at: str, message: str, record: Record) -> None:
         passing = (self._sum(self._read[at]), record.sum)
         if not self.is_edited and passing not in self._passed_before:
-            raise UserError(f"{told}: run `pit-tools {record.command}` again, or give --edited if "
-                            "you changed it yourself")
-        self.edited.append(told)
+            raise UserError(f"{message}: run `pit-tools {record.command}` again, or give --edited "
+                            "if you changed it yourself")
+        self.edited.append(message)
         self.passed.append(passing)
 
     def inputs(self, folder: str, without: Iterable[str]) -> tuple[File, ...]:
-        """All that was read, as a record in a folder names it, except what is written.
+        """Returns all that was read, as a record in a folder names it, except the outputs.
 
         Raises UserError if a file was changed meanwhile."""
         found = []
@@ -312,6 +314,6 @@ def _plain(path: str) -> str:
 
 
 def _shown(record: Record) -> str:
-    """The outputs of a record in a few words."""
+    """Returns the outputs of a record in a few words."""
     name = record.outputs[0].name
     return name if len(record.outputs) == 1 else f"{name} (with all of {_plain(record.path)})"

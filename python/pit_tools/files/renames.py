@@ -1,4 +1,4 @@
-"""Files on their way to their places: an old file is kept until all new ones are put."""
+"""Files on their way to their final names: an old file is kept until all new ones are in place."""
 from __future__ import annotations
 
 import errno
@@ -16,7 +16,8 @@ from pit_tools.files import records
 from pit_tools.files.raw import Raw, with_name
 from pit_tools.files.records import File
 
-#: How much of a name stands in that of an unfinished file: with the rest it must have 255 bytes.
+#: The length of a name's part in the name of an unfinished file: with the remainder it has at most
+#: 255 bytes.
 NAME_KEPT = 200
 
 #: Seconds in which another command has put its files into a folder.
@@ -27,8 +28,8 @@ Made = TypeVar("Made")
 
 @dataclass
 class Unfinished:
-    """A file beside its place. `place` is how the command names it, `target` where it goes, `path`
-    where it is till then, empty for a file that goes; `record` is the path of its record, or
+    """A temporary file for an output. `place` is how the command names it, `target` its final path,
+    `path` its path until then, empty for a file to remove; `record` is the path of its record, or
     empty."""
 
     place: str
@@ -38,7 +39,7 @@ class Unfinished:
     raw: Optional[Raw] = None
 
     def file(self) -> File:
-        """What its record says of it."""
+        """Returns its entry in its record."""
         found = self.raw.sum.hexdigest() if self.raw and self.raw.sum else records.sum_of(self.path)
         return File(os.path.relpath(self.target, os.path.dirname(self.record)),
                     os.stat(self.path).st_size, found)
@@ -46,8 +47,8 @@ class Unfinished:
 
 @dataclass
 class Step:
-    """A file on its way to its place: whether one was there, the other name that this one has
-    meanwhile, whether it lost its own for that, and whether the new one is in its place."""
+    """A file on its way to its final name: whether one existed, the other name that this one has
+    meanwhile, whether it lost its own for that, and whether the new one is in place."""
 
     one: Unfinished
     was_there: bool
@@ -56,8 +57,8 @@ class Step:
     is_put: bool = False
 
     def back(self) -> str:
-        """Brings the old file back, or takes away a new one that nothing stood in place of; tells
-        what there is where that is refused."""
+        """Restores the old file, or removes a new one that replaced nothing; reports what exists if
+        that fails."""
         place, before = self.one.place, os.path.join(os.path.dirname(self.one.place),
                                                      os.path.basename(self.kept))
         try:
@@ -73,9 +74,9 @@ class Step:
             return f"{place} is {'new' if self.is_put else 'gone'}, and was {before}"
 
 
-def beside(target: str, what: str, make: Callable[[str], Made]) -> tuple[str, Made]:
-    """Makes a file beside another one, under a name that is not taken; returns it, and what
-    `make` does."""
+def next_to(target: str, what: str, make: Callable[[str], Made]) -> tuple[str, Made]:
+    """Makes a file next to another one, under an unused name; returns it, and the result of
+    `make`."""
     above, name = os.path.split(target)
     path = os.path.join(above, f"{name[:NAME_KEPT]}.{what}-{os.getpid()}")
     for number in range(1, 1000):
@@ -92,8 +93,8 @@ def created(path: str, mode: int) -> int:
 
 
 def take_rights(descriptor: int, old: os.stat_result) -> None:
-    """Gives a new file the owner and the mode of the one whose place it takes, as far as the system
-    lets it: where it does not, nobody can do more with it than before."""
+    """Gives a new file the owner and the mode of the one that it replaces, if the system permits
+    it: otherwise nobody has more rights to it than before."""
     new = os.fstat(descriptor)
     try:
         if (old.st_uid, old.st_gid) != (new.st_uid, new.st_gid):
@@ -104,7 +105,7 @@ def take_rights(descriptor: int, old: os.stat_result) -> None:
 
 
 def lies(target: str) -> bool:
-    """Whether a name is taken, by a link that leads nowhere too."""
+    """Returns whether a name is taken, also by a broken link."""
     try:
         os.lstat(target)
     except (FileNotFoundError, NotADirectoryError):
@@ -113,8 +114,8 @@ def lies(target: str) -> bool:
 
 
 def put_step(step: Step, is_kept: bool) -> None:
-    """Puts a file in its place, or has it go; the old one gets a second name, or another where the
-    file system has no links."""
+    """Renames a file to its final name, or removes it; the old one gets a second name, or is
+    renamed if the file system has no links."""
     one = step.one
     try:
         if step.was_there and (is_kept or not one.path):
@@ -127,13 +128,13 @@ def put_step(step: Step, is_kept: bool) -> None:
 
 
 def _kept(one: Unfinished) -> tuple[str, bool]:
-    """Another name of the old file, and whether it lost its own for that."""
+    """Returns another name of the old file, and whether it lost its own for that."""
     if one.path:
         try:
-            return beside(one.target, "before", lambda path: os.link(one.target, path))[0], False
+            return next_to(one.target, "before", lambda path: os.link(one.target, path))[0], False
         except OSError:
             pass
-    return beside(one.target, "before", lambda path: _moved(one.target, path))[0], True
+    return next_to(one.target, "before", lambda path: _moved(one.target, path))[0], True
 
 
 def _moved(path: str, new: str) -> None:
@@ -150,8 +151,8 @@ def said(error: OSError) -> str:
 
 @contextmanager
 def alone_in(above: str) -> Iterator[None]:
-    """Has no other command put files into a folder meanwhile. The system lifts the lock with the
-    process; where a file system has none, records alone tell a mixture."""
+    """Prevents other commands from renaming files in a folder meanwhile. The system releases the
+    lock with the process; without locks in a file system, only records reveal a mixture."""
     try:
         descriptor = os.open(above, os.O_RDONLY | os.O_DIRECTORY | os.O_CLOEXEC)
     except OSError:
@@ -170,7 +171,7 @@ def alone_in(above: str) -> Iterator[None]:
 
 
 def _locked(descriptor: int) -> bool:
-    """Takes a lock; whether nobody else has it."""
+    """Takes a lock; returns whether nobody else has it."""
     try:
         fcntl.flock(descriptor, fcntl.LOCK_EX | fcntl.LOCK_NB)
     except BlockingIOError:
@@ -189,7 +190,7 @@ def remove(path: str) -> None:
 
 
 def sync_folder(path: str) -> None:
-    """Makes the new names last; the files are there already, so a fault of this is none."""
+    """Makes the new names durable; the files exist already, so an error here is ignored."""
     try:
         descriptor = os.open(path, os.O_RDONLY | os.O_DIRECTORY | os.O_CLOEXEC)
     except OSError:
@@ -202,8 +203,8 @@ def sync_folder(path: str) -> None:
         os.close(descriptor)
 
 
-def clear_left(places: Iterable[str]) -> None:
-    """Takes away what a killed process left beside these files, which nobody else may write now."""
+def clear_leftovers(places: Iterable[str]) -> None:
+    """Removes what a killed process left next to these files, which nobody else may write now."""
     by_folder: dict[str, set[str]] = {}
     for place in places:
         above, name = os.path.split(place)

@@ -9,18 +9,18 @@ from dataclasses import dataclass
 from typing import TYPE_CHECKING, Optional, Sequence, Union
 
 from pit_tools.files import outputs
-from pit_tools.texts.spelling import shortest
+from pit_tools.texts.number_texts import shortest
 
 if TYPE_CHECKING:
     from openpyxl.worksheet.worksheet import Worksheet
 
-#: What stands in a cell; None leaves it empty.
+#: The value of a cell; None leaves it empty.
 Cell = Union[str, float, None]
 
-#: The part of a workbook that says who made it.
+#: The part of a workbook that names its creator.
 _MAKER = "docProps/core.xml"
 
-#: What a workbook of this tool says there, so that no other is replaced.
+#: The creator in a workbook of this tool, so that no other workbook is replaced.
 _CREATOR = "pit-tools"
 
 #: The day of all entries of a workbook: the same tables make the same file.
@@ -45,7 +45,7 @@ class Table:
 
 
 def write_csv(table: Table, place: str, kind: str) -> None:
-    """Writes a table as CSV in UTF-8, numbers with a point and without signs between thousands."""
+    """Writes a table as CSV in UTF-8, numbers with a point and without separators of thousands."""
     with outputs.opened(place, kind, "utf-8") as file:
         lines = csv.writer(file, lineterminator="\n")
         lines.writerow(column.head for column in table.columns)
@@ -61,7 +61,7 @@ def _text_of(cell: Cell, decimals: int) -> str:
 
 
 def write_workbook(tables: Sequence[Table], place: str) -> None:
-    """Writes a workbook (.xlsx) with a sheet for each table, whose heads stay in sight."""
+    """Writes a workbook (.xlsx) with a sheet for each table, whose heads stay visible."""
     import openpyxl
 
     book = openpyxl.Workbook()

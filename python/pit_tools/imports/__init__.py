@@ -1,1 +1,1 @@
-"""The rows of exports on a grid of blocks: what is odd of them, and what is written of them."""
+"""The rows of exports on a grid of blocks: checks, and the files that are written from them."""

@@ -27,9 +27,9 @@ from pit_tools.texts.formats import MOST_ROWS, MOST_ZONE
 
 def cut_zones(rows: pd.DataFrame, zones: Sequence[str],
               most: int = MOST_ROWS) -> tuple[pd.DataFrame, list[str]]:
-    """Rows, numbered from 0, with zones of at most so many of them, and the names of these: a
-    greater zone becomes several of one name, one behind the other. It raises UserError for more
-    than a plan has."""
+    """Splits zones so that none has more than `most` rows: returns the rows with zones numbered
+    from 0, and the names of these; a larger zone becomes several of one name, in sequence. It
+    raises UserError for more zones than a plan may have."""
     rows = rows.copy(deep=False)
     rows.index = pd.RangeIndex(len(rows))
     counts = np.bincount(rows["zone"], minlength=len(zones))
@@ -38,8 +38,8 @@ def cut_zones(rows: pd.DataFrame, zones: Sequence[str],
         return rows, list(zones)
     if parts.sum() > MOST_ZONE + 1:
         raise UserError(f"{len(rows):,} rows in {len(zones):,} zones would be {parts.sum():,} "
-                        f"files of at most {most:,} rows, and a plan has {MOST_ZONE + 1} zones: "
-                        "regularise the model to greater blocks, or leave rows out by --where")
+                        f"files of at most {most:,} rows, but a plan has at most {MOST_ZONE + 1} "
+                        "zones: regularise the model to larger blocks, or omit rows by --where")
     first = np.cumsum(parts) - parts
     zone = first[rows["zone"]] + rows.groupby("zone").cumcount().to_numpy() // most
     return rows.assign(zone=zone), [name for name, many in zip(zones, parts) for _ in range(many)]
@@ -49,15 +49,15 @@ def cut_zones(rows: pd.DataFrame, zones: Sequence[str],
 class Imported:
     """An export as blocks of a grid.
 
-    `rows` has a row for each block: ix, iy, iz, places of the grid from 0; tonnes in kilograms
-    and grade in millionths of g/t, int64; zone, a number of `zones`, if one of more rows than
-    a zone file may have stands several times. Its order is that of the export. `places` has a
-    row for each record of the export that was read, with its file, its record (the header
-    being 0) and its ix, iy, iz, so that a pit finds the export's rows again. `grid` is in
-    metres, or in feet where the lengths stay in feet. `benches` has the K of zones that are so
-    many benches below another, and `part_of` the zone that each of these was split off.
-    `reconciliation` is a resource report beside what was read, if one was given. `holdings`
-    has what each zone holds, and all."""
+    `rows` has a row for each block: ix, iy, iz, positions in the grid from 0; tonnes in kilograms
+    and grade in millionths of g/t, int64; zone, an index of `zones`, in which a zone of more rows
+    than a zone file may have appears several times. Its order is the export's. `places` has a row
+    for each record of the export that was read, with its file, its record (the header being 0) and
+    its ix, iy, iz, so that a pit can be traced to the export's rows. `grid` is in metres, or in
+    feet where the lengths stay in feet. `benches` has the K of zones that are a number of benches
+    below another, and `part_of` the zone that each of these was split off. `reconciliation`
+    compares a resource report with what was read, if one was given. `holdings` has the contents of
+    each zone, and the total."""
 
     words: Words
     sources: list[Source]
@@ -87,21 +87,21 @@ class Imported:
 
     @property
     def rock_benches(self) -> int:
-        """How many benches there are from the lowest row to the highest: those of air are not rows
-        of a zone file."""
+        """Returns the number of benches from the lowest row to the highest: benches of air are not
+        rows of a zone file."""
         return int(np.ptp(self.rows["iz"].to_numpy())) + 1
 
     def records(self) -> list[str]:
-        """The records `grid` and `zone` of a plan, the zones in their order, with slopes of 45
-        degrees and the K to take for them."""
+        """Returns the records `grid` and `zone` of a plan, the zones in their order, with slopes of
+        45 degrees and the K to use for them."""
         grid = ",".join(["grid", *map(plain, (*self.grid.origin, *self.grid.size))])
         K = K_for(self.rock_benches)
         return [grid, *(",".join(zone_record(Zone((Slope(1, 1),) * 4, self.benches.get(name, K))))
                         for name in self.zones)]
 
     def file_names(self, base: str) -> list[str]:
-        """The path of each zone's file, with a number where a zone has several. Raises
-        UserError if two zones would have one."""
+        """Returns the path of each zone's file, with a number if a zone has several. Raises
+        UserError if two zones would have the same."""
         names: dict[str, str] = {}
         for at, zone in enumerate(self.zones):
             number = f"-{self.zones[:at].count(zone) + 1}" if self.zones.count(zone) > 1 else ""
@@ -114,7 +114,8 @@ class Imported:
         return list(names)
 
     def reconciled(self) -> Reconciled:
-        """What is kept of the resource report, and what the zones hold as they are written."""
+        """Returns what is kept of the resource report, and the contents of the zones as they are
+        written."""
         if self.reconciliation is None:
             return Reconciled()
         zone = self.rows["zone"].to_numpy()
@@ -132,30 +133,31 @@ class Imported:
                           self.part_of, self.words.is_merged)
 
     def write(self, base: str) -> list[str]:
-        """Writes the zone files, and BASE.json with the words, the grid, the zones, the frame,
-        the resource report and what was reported. It answers the zone files' paths. It raises
-        UserError, and writes nothing, where zones do not hold what the report says."""
+        """Writes the zone files, and BASE.json with the options, the grid, the zones, the frame,
+        the resource report and the import's report. It returns the zone files' paths. It raises
+        UserError, and writes nothing, if zones differ from the resource report."""
         if self.reconciliation is not None:
             self.reconciliation.judge()
         paths = self.file_names(base)
         exports = list(dict.fromkeys(source.path for source in self.sources))
-        told = {"tool": f"pit-tools {VERSION}",
-                "exports": exports,
-                "words": {key: value for key, value in asdict(self.words).items()
-                          if value not in ("", (), [], None, False)},
-                "grid": {"origin": [plain(value) for value in self.grid.origin],
-                         "size": [plain(value) for value in self.grid.size],
-                         "blocks": [axis.places for axis in self.axes],
-                         "rock_benches": self.rock_benches},
-                "zones": [{"name": name, "file": os.path.basename(path),
-                           "K": self.benches.get(name)} for name, path in zip(self.zones, paths)],
-                "frame": asdict(self.frame), "reconciled": self.reconciled().record(),
-                "told": self.report.facts, "look_at": self.report.doubts}
+        content = {"tool": f"pit-tools {VERSION}",
+                   "exports": exports,
+                   "words": {key: value for key, value in asdict(self.words).items()
+                             if value not in ("", (), [], None, False)},
+                   "grid": {"origin": [plain(value) for value in self.grid.origin],
+                            "size": [plain(value) for value in self.grid.size],
+                            "blocks": [axis.places for axis in self.axes],
+                            "rock_benches": self.rock_benches},
+                   "zones": [{"name": name, "file": os.path.basename(path),
+                              "K": self.benches.get(name)}
+                             for name, path in zip(self.zones, paths)],
+                   "frame": asdict(self.frame), "reconciled": self.reconciled().record(),
+                   "told": self.report.facts, "look_at": self.report.doubts}
         progress.step("writes zone files")
         with outputs.together(exports, record=base + ".json", others=()):
             for zone, path in enumerate(paths):
                 write_zone_file(path, self.zone_rows(zone))
             with outputs.opened(base + ".json", "record of an import", "utf-8") as file:
-                json.dump(told, file, indent=1, ensure_ascii=False)
+                json.dump(content, file, indent=1, ensure_ascii=False)
                 file.write("\n")
         return paths

@@ -1,6 +1,6 @@
-"""What the causes may be where rows lie on no grid, each with a row that shows it.
+"""Possible causes if rows are on no grid, each with a row that shows it.
 
-Coordinates are integers of thousandths of the export's unit of length, int64."""
+Coordinates are integers, thousandths of the export's unit of length, int64."""
 from __future__ import annotations
 
 from itertools import permutations
@@ -12,11 +12,11 @@ from scipy.spatial import cKDTree
 
 from pit_tools.errors import UserError
 from pit_tools.imports.read import Read
-from pit_tools.imports.sizes import sizes_told
+from pit_tools.imports.sizes import sizes_text
 from pit_tools.plans.grids import AXES, turned_by
 from pit_tools.texts.decimals import in_short
 
-# Coordinates that mostly say that nothing is known; the last means all beyond, as -1e30.
+# Coordinates that usually mean a missing value; the last means all beyond, as -1e30.
 MARKS = (*(-1000 * (10 ** digits - 1) for digits in range(1, 7)),
          *(1000 * (10 ** digits - 1) for digits in range(4, 7)), -10 ** 18)
 
@@ -25,8 +25,8 @@ ENDS = 8
 
 
 def judge_ends(values: Sequence[np.ndarray], with_cells: Callable[[int], str]) -> None:
-    """Stops where the first or the last rows are the smallest and the largest of all columns:
-    rows of numbers about the rows."""
+    """Stops if the first or the last rows are the smallest and the largest of all columns: rows of
+    statistics."""
     count = len(values[0])
     if count < 30:
         return
@@ -39,9 +39,9 @@ def judge_ends(values: Sequence[np.ndarray], with_cells: Callable[[int], str]) -
             near = [high for high in np.flatnonzero(most) if 0 < abs(high - low) < 4]
             if near and int(values[0][ends[low]]) not in MARKS:
                 rows = sorted((ends[low], ends[near[-1]]))
-                raise UserError(f"{with_cells(rows[0])} and {with_cells(rows[1])} have the least "
-                                "and the greatest of x, y and z: are they rows of minima, maxima "
-                                "or means, and no blocks? Take them out of the export")
+                raise UserError(f"{with_cells(rows[0])} and {with_cells(rows[1])} have the "
+                                "smallest and the largest x, y and z: are they rows of minima, "
+                                "maxima or means, not blocks? Remove them from the export")
 
 
 def judge_degrees(values: Sequence[np.ndarray], with_cells: Callable[[int], str]) -> None:
@@ -50,37 +50,37 @@ def judge_degrees(values: Sequence[np.ndarray], with_cells: Callable[[int], str]
     level = np.array(values[:2])
     if (len(level[0]) > 8 and np.ptp(level, axis=1).max() < 1000 <= np.ptp(values[2])
             and np.abs(level).max() <= 180_000):
-        raise UserError(f"{with_cells(0)}: x and y are degrees, or all blocks lie within one "
+        raise UserError(f"{with_cells(0)}: x and y are degrees, or all blocks are within one "
                         "metre: export them in metres of a projection, as UTM")
 
 
 def causes(values: Sequence[np.ndarray], with_cells: Callable[[int], str]) -> Iterable[str]:
-    """What may be behind coordinates that lie on no grid."""
+    """Yields what may be the cause of coordinates that are on no grid."""
     marked = _marks_in(values)
     if marked is not None:
         axis, at = marked
-        yield (f"{AXES[axis]} is {in_short(int(values[axis][at]), 3)} in {with_cells(at)}: a mark "
-               "of what is missing? Leave such rows out by --where")
+        yield (f"{AXES[axis]} is {in_short(int(values[axis][at]), 3)} in {with_cells(at)}: does it "
+               "mean a missing value? Omit such rows by --where")
         return
     levels = len(np.unique(values[2]))
     if levels > 0.2 * len(values[2]) and levels > 100:
         yield (f"z has {levels:,} values in {len(values[2]):,} rows, as {with_cells(0)}: are these "
-               "seams or a surface, with a thickness by column? pitc takes blocks on level "
-               "benches: have the package cut them into such")
+               "seams or a surface, with a thickness by column? pitc needs blocks on level "
+               "benches: have the package cut them into such blocks")
         return
     yield from two_grids(values, with_cells)
 
 
-def dip_told(dip: float) -> str:
-    """A cause: the model dips by so many degrees."""
-    return (f"Neighbours lie {dip:.2f} degrees off the vertical, so the model dips, turned about a "
-            "level axis, and benches of pitc are level: give --rotation, its turns, as 'z 40, "
-            "x 20', with --regularise X,Y,Z, which spreads it over level blocks; or have the "
-            "package regularise it")
+def dip_text(dip: float) -> str:
+    """Returns a cause: the model dips by this number of degrees."""
+    return (f"Neighbours are {dip:.2f} degrees off the vertical, so the model dips, turned about a "
+            "level axis, but benches of pitc are level: give --rotation, its turns, as 'z 40, x "
+            "20', with --regularise X,Y,Z, which spreads it over level blocks; or have the package "
+            "regularise it")
 
 
 def _marks_in(values: Sequence[np.ndarray]) -> Optional[tuple[int, int]]:
-    """A coordinate that is a mark of what is missing and lies far from all others: its axis and
+    """Returns a coordinate that marks a missing value and is far from all others: its axis and
     row."""
     for axis, value in enumerate(values):
         for mark in MARKS:
@@ -125,24 +125,24 @@ def dip_of(values: Sequence[np.ndarray]) -> Optional[float]:
 
 
 def two_grids(values: Sequence[np.ndarray], with_cells: Callable[[int], str]) -> Iterable[str]:
-    """A grid on which most rows lie, and rows beside it."""
+    """Yields a grid on which most rows are, and the rows off it."""
     for axis, name in enumerate(AXES):
         found = _most_on(values[axis])
         if found is None:
             continue
         step, first, is_on = found
         at = int(np.flatnonzero(~is_on)[0])
-        yield (f"Most rows lie along {name} on a grid of {in_short(step, 3)} through "
-               f"{in_short(first, 3)}, and {int((~is_on).sum()):,} beside it, as {with_cells(at)}: "
-               "are there two grids, as an infill, or super-blocks? Export one size of block, or "
-               "with columns of sizes give --parents, which sums up smaller blocks and cuts "
-               "greater ones")
+        yield (f"Most rows are along {name} on a grid of {in_short(step, 3)} through "
+               f"{in_short(first, 3)}, and {int((~is_on).sum()):,} are off it, as "
+               f"{with_cells(at)}: are there two grids, as an infill, or super-blocks? Export one "
+               "size of block, or with columns of sizes give --parents, which sums up smaller "
+               "blocks and cuts larger ones")
         return
 
 
 def _most_on(value: np.ndarray) -> Optional[tuple[int, int, np.ndarray]]:
-    """The largest distance of coordinates at which more than half the rows, and not all, lie
-    on one grid: it, a place of the grid, and which rows are on it."""
+    """Returns the largest distance of coordinates at which more than half the rows, but not all,
+    are on one grid: it, a position of the grid, and the rows on it."""
     unique, counts = np.unique(value, return_counts=True)
     gaps = np.unique(np.diff(unique))
     tried = sorted({int(gap) * many for gap in gaps[:20] for many in (1, 2, 3, 4)}
@@ -166,8 +166,8 @@ def _most_on(value: np.ndarray) -> Optional[tuple[int, int, np.ndarray]]:
 
 def judge_neighbours(places: Sequence[np.ndarray], steps: Sequence[int],
                      with_cells: Callable[[int], str]) -> None:
-    """Stops where rows of a thin box have neighbours two places away, and few at one: blocks are
-    greater than the grid that was found, as where blocks of two sizes lie among one another."""
+    """Stops if rows of a thin box have neighbours two positions away, and few at one: blocks are
+    larger than the grid that was found, as with interspersed blocks of two sizes."""
     many = [int(place.max()) + 1 for place in places]
     if len(places[0]) * 2 > many[0] * many[1] * many[2]:
         return
@@ -178,25 +178,25 @@ def judge_neighbours(places: Sequence[np.ndarray], steps: Sequence[int],
     for axis, name in enumerate(AXES):
         if many[axis] < 4:
             continue
-        beside = {}
+        neighbours = {}
         for far in (1, 2):
             inside = places[axis] + far < many[axis]
             wanted = key[inside] + far * strides[axis]
             at = np.minimum(np.searchsorted(taken, wanted), len(taken) - 1)
-            beside[far] = taken[at] == wanted
-        if beside[1].mean() < 0.5 * beside[2].mean():
+            neighbours[far] = taken[at] == wanted
+        if neighbours[1].mean() < 0.5 * neighbours[2].mean():
             rows = np.flatnonzero(places[axis] + 1 < many[axis])
-            row = int(rows[np.flatnonzero(~beside[1])[0]])
-            raise UserError(f"rows lie along {name} on a grid of {in_short(steps[axis], 3)}, and "
+            row = int(rows[np.flatnonzero(~neighbours[1])[0]])
+            raise UserError(f"rows are along {name} on a grid of {in_short(steps[axis], 3)}, but "
                             f"most have their next {in_short(2 * steps[axis], 3)} away, as "
                             f"{with_cells(row)}: are there two grids, super-blocks, or sub-blocks "
-                            "among blocks? Export one size of block, or with columns of sizes "
-                            "give --parents, which sums up smaller blocks and cuts greater ones")
+                            "among blocks? Export one size of block, or with columns of sizes give "
+                            "--parents, which sums up smaller blocks and cuts larger ones")
 
 
 def likelier_order(rock: np.ndarray, blocks: Sequence[int], order: Sequence[str]) -> Optional[str]:
-    """Of a list, another order of the axes in which rock has far fewer borders with what is
-    none than in this one; None if there is none. `rock` says of each row, in the order of the
+    """Returns for a list another order of the axes in which rock has far fewer borders with other
+    places than in this one; None if there is none. `rock` shows for each row, in the order of the
     list, whether it is rock."""
     borders = {}
     for axes in permutations("xyz"):
@@ -209,28 +209,28 @@ def likelier_order(rock: np.ndarray, blocks: Sequence[int], order: Sequence[str]
 
 
 class Hints:
-    """What may be behind coordinates that lie on no grid."""
+    """Yields what may be the cause of coordinates that are on no grid."""
 
     def __init__(self, read: Read) -> None:
         self.read, self.words = read, read.words
 
     def cause(self, values: Sequence[np.ndarray]) -> str:
-        """What may be behind coordinates that lie on no grid."""
+        """Yields what may be the cause of coordinates that are on no grid."""
         dip = dip_of(self.of_one_size(values))
         if dip is not None:
-            return f". {dip_told(dip)}"
+            return f". {dip_text(dip)}"
         why = self.turn_hint(values) or self.feet_hint(values)
         if why:
             return why
         if self.read.sizes is not None:
             return (f". {self.read.sizes.names} has sizes along x of "
-                    f"{sizes_told(self.read.sizes.along[0])}: --parents X,Y,Z, with the size that "
-                    "blocks are to have, sums up smaller ones and cuts greater ones")
+                    f"{sizes_text(self.read.sizes.along[0])}: --parents X,Y,Z, with the wanted "
+                    "size of blocks, sums up smaller ones and cuts larger ones")
         return "" if self.words.size else "".join(f". {cause}"
                                                   for cause in causes(values, self.read.with_cells))
 
     def feet_hint(self, values: Sequence[np.ndarray]) -> str:
-        """Whether coordinates of a later export are those of the first in feet."""
+        """Returns whether coordinates of a later export are those of the first in feet."""
         sources = self.read.sources
         for number in range(1, len(sources)):
             middles = [[float(np.median(value[self.read.file == one])) for one in (0, number)]
@@ -244,8 +244,8 @@ class Hints:
         return ""
 
     def of_one_size(self, values: Sequence[np.ndarray]) -> list[np.ndarray]:
-        """The coordinates of the rows of the size that most have, since neighbours of one size lie
-        along the axes."""
+        """Returns the coordinates of the rows of the most frequent size, since neighbours of one
+        size are along the axes."""
         if self.read.sizes is None:
             return list(values)
         codes = pd.factorize(pd.MultiIndex.from_arrays(
@@ -254,13 +254,13 @@ class Hints:
         return [value[usual] for value in values]
 
     def turn_hint(self, values: Sequence[np.ndarray]) -> str:
-        """What the directions to neighbours say, if no grid fits."""
+        """Returns what the directions to neighbours show, if no grid fits."""
         angle = turned_by(*self.of_one_size(values))
         if angle is None:
             return ""
         if self.read.turn:
-            return (f". So turned, neighbours still lie {angle:.2f} degrees off the axes: is it "
-                    "the bearing of +x, or the azimuth of +y?")
-        return (f". Neighbours lie at bearings {90 - angle:.2f} and {180 - angle:.2f}, so the "
-                "model is turned: give --x-bearing with that of its +x, or --y-azimuth with that "
-                "of its +y")
+            return (f". With this turn, neighbours are still {angle:.2f} degrees off the axes: is "
+                    "it the bearing of +x, or the azimuth of +y?")
+        return (f". Neighbours are at bearings {90 - angle:.2f} and {180 - angle:.2f}, so the "
+                "model is turned: give --x-bearing with the bearing of its +x, or --y-azimuth with "
+                "the azimuth of its +y")

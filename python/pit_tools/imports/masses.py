@@ -1,5 +1,5 @@
-"""Tonnes of rows: read, or by densities, volumes and shares; and what others of an export's columns
-say of them."""
+"""Tonnes of rows: read, or by densities, volumes and shares; and their comparison with other
+columns of an export."""
 from __future__ import annotations
 
 from typing import Callable, Optional
@@ -17,9 +17,9 @@ ROUNDED = 0.005
 
 
 class Masses:
-    """Tonnes of the rows. `taken` gives a column of what was read, a row for each part of the
-    export's rows; `volume` are cubic metres of each row's block; `unit_of` is the unit that
-    follows a word."""
+    """Tonnes of the rows. `taken` returns a column of what was read, a row for each part of the
+    export's rows; `volume` are cubic metres of each row's block; `unit_of` is the unit that follows
+    an option's column."""
 
     def __init__(self, words: Words, reading: Reading, report: Report,
                  taken: Callable[[str], Optional[np.ndarray]], volume: np.ndarray,
@@ -42,7 +42,7 @@ class Masses:
         return found
 
     def tonnes(self) -> np.ndarray:
-        """Tonnes in parts, -1 where missing."""
+        """Returns tonnes in parts, -1 if missing."""
         found = self.taken("tonnes")
         if found is not None:
             return found if self.cut is None else self.cut.shared(found)
@@ -63,8 +63,8 @@ class Masses:
         return self.volume if self.share is None else self.volume * np.nan_to_num(self.share)
 
     def by_density(self, density: np.ndarray) -> np.ndarray:
-        """Tonnes of each row. Of a percent model the rest of a block is waste, or air beside waste
-        of which the share is known; its grade is that of ore and waste together."""
+        """Returns the tonnes of each row. Of a percent model the remainder of a block is waste, or
+        air in addition to waste with a known share; its grade is that of ore and waste together."""
         share = self.shares("ore_share")
         if share is None:
             return density * self.volume
@@ -80,8 +80,8 @@ class Masses:
         return np.where(whole > 0, whole * self.volume, np.nan)
 
     def waste_shares(self, ore: np.ndarray) -> np.ndarray:
-        """The share of waste beside that of ore, which may be missing; all that is not ore, if
-        none is named."""
+        """Returns the share of waste next to the ore's, which may be missing; all that is not ore,
+        if none is named."""
         known = self.shares("waste_share")
         if known is None:
             self.judge_rests(np.nan_to_num(ore))
@@ -90,19 +90,19 @@ class Masses:
         over = np.nan_to_num(ore) + waste > 1 + ROUNDED
         if over.any():
             raise UserError(f"{self.with_cells(int(np.flatnonzero(over)[0]))}: ore and waste are "
-                            f"more than the whole block, as of {int(over.sum()):,} rows")
+                            f"more than the complete block, as in {int(over.sum()):,} rows")
         air = np.nan_to_num(ore) + waste < 1 - ROUNDED
         self.report.facts.append(f"{int((air & (np.nan_to_num(ore) + waste > 0)).sum()):,} blocks "
-                                 "are air in part")
+                                 "are partly air")
         return waste
 
     def judge_rests(self, ore: np.ndarray) -> None:
-        """Stops where a column of waste or air that nobody named says that a block's rest is not
-        all waste."""
+        """Stops if a column of waste or air that no option names shows that a block's remainder is
+        not all waste."""
         unnamed = self.reading.unnamed
         for number, column in enumerate(unnamed.rests):
             rest = self.taken(f"rest_{number}")
-            name = unnamed.told([column])
+            name = unnamed.names_text([column])
             if rest is None or not np.isfinite(rest).any():
                 continue
             rest = rest / 100 if np.nanmax(rest) > 1.000001 else rest
@@ -110,13 +110,13 @@ class Masses:
                                  & (ore + rest < 1 - ROUNDED))
             if np.nanmax(rest) <= 1.000001 and wrong.any():
                 raise UserError(f"{self.with_cells(int(np.flatnonzero(wrong)[0]))}: by {name} a "
-                                f"part of the block is air, as of {int(wrong.sum()):,} rows, and "
-                                "--ore-share alone takes all but the ore for waste: give "
-                                "--waste-share too, and the rest is air")
+                                f"part of the block is air, as in {int(wrong.sum()):,} rows, but "
+                                "--ore-share without --waste-share counts all except the ore as "
+                                "waste: also give --waste-share, and the remainder is air")
 
     def shares(self, key: str) -> Optional[np.ndarray]:
-        """Shares from 0 to 1; those of a hundred are known by their greatest, if no unit says
-        it."""
+        """Returns shares from 0 to 1; percentages are recognised by their largest, if no unit is
+        given."""
         share = self.taken(key)
         if share is None:
             return None
@@ -124,14 +124,16 @@ class Masses:
         name = key.replace("_", "-")
         if not self.unit_of(key) and 1.000001 < most <= 100.000001:
             share = share / 100
-            self.report.facts.append(f"--{name} is read as percent, since it goes up to {most:g}")
+            self.report.facts.append(f"--{name} is read as percent, since its largest value is "
+                                     f"{most:g}")
         elif most > 1.000001:
-            raise UserError(f"--{name} goes up to {most:g}: a share is 0 to 1, or 0 to 100 %")
+            raise UserError(f"--{name} has values up to {most:g}: a share must be 0 to 1, or 0 to "
+                            "100 %")
         return np.minimum(share, 1)
 
     def by_other(self) -> Optional[np.ndarray]:
-        """Tonnes of each row by the column that nobody named: by the density beside tonnes, or
-        the tonnes beside a density; by the volume, if that is all."""
+        """Returns tonnes of each row by the column that no option names: by the density if tonnes
+        are read, or the tonnes if a density is; by the volume, if there is only that."""
         weight, volume = self.taken("own_weight"), self.taken("own_volume")
         share = 1 if self.cut is None else self.cut.share
         if weight is None:

@@ -23,16 +23,16 @@ class Ordered:
         words, count = self.words, self.reading.counts["records"]
         blocks = counts_of(words.blocks, "--blocks")
         if count != blocks[0] * blocks[1] * blocks[2]:
-            raise UserError(f"{count:,} rows, and --blocks says "
-                            f"{blocks[0] * blocks[1] * blocks[2]:,}: rows without coordinates have "
-                            "to be all that there are")
+            raise UserError(f"{count:,} rows, but --blocks makes "
+                            f"{blocks[0] * blocks[1] * blocks[2]:,}: rows without coordinates must "
+                            "be complete")
         if len(self.read.sources) > 1:
-            raise UserError("rows without coordinates are read from one export alone")
+            raise UserError("rows without coordinates are read from one export only")
         number = self.read.record - self.reading.first_record
         order = [cell.strip() for cell in words.order.split(",")]
         if sorted(cell.lstrip("-") for cell in order) != ["x", "y", "z"]:
-            raise UserError("--order names the axes, the one that runs first before the others, "
-                            f"as x,y,z or x,y,-z, and not `{words.order}`")
+            raise UserError("--order names the axes, the one that runs first before the others, as "
+                            f"x,y,z or x,y,-z, not `{words.order}`")
         places: list[np.ndarray] = [np.array([])] * 3
         for cell in order:
             axis = "xyz".index(cell.lstrip("-"))
@@ -41,22 +41,22 @@ class Ordered:
                 places[axis] = blocks[axis] - 1 - places[axis]
         ways = {"x": "x upward", "y": "y upward", "z": "z upward", "-x": "x downward",
                 "-y": "y downward", "-z": "z downward"}
-        self.report.facts.append("places by the order of "
+        self.report.facts.append("positions by the order of "
                                  "rows: " + ", then ".join(ways[cell] for cell in order))
         firsts, sizes = thousandths(words.first, "--first"), sizes_of(words.size, "--size")
         return [Axis(first, size, many, 0)
                 for first, size, many in zip(firsts, sizes, blocks)], places
 
     def judge_order(self, rows: pd.DataFrame) -> None:
-        """Checks whether rock would hang together far better in another order."""
+        """Checks whether rock would be far less scattered in another order."""
         blocks = counts_of(self.words.blocks, "--blocks")
         rock = np.zeros(blocks[0] * blocks[1] * blocks[2], bool)
         rock[self.read.record - self.reading.first_record] = (rows["tonnes"] > 0).to_numpy()
         order = [cell.strip() for cell in self.words.order.split(",")]
         found = likelier_order(rock, blocks, order)
         if found:
-            self.report.doubts.append(f"in the order {self.words.order} rock and air lie "
-                                      f"scattered, and in the order {found} they hang together: is "
+            self.report.doubts.append(f"in the order {self.words.order} rock and air are "
+                                      f"scattered, but in the order {found} they are connected: is "
                                       f"it --order {found}, or with signs, as "
                                       f"{found.replace('z', '-z')}?")
 
@@ -68,21 +68,21 @@ class Ordered:
         leasts = [int(column.min()) // 1000 for column in columns]
         start = words.index_from if words.index_from is not None else min(leasts)
         if words.index_from is None and (min(leasts) not in (0, 1) or {0, 1} <= set(leasts)):
-            raise UserError(f"the least indices are {', '.join(map(str, leasts))}: say by "
+            raise UserError(f"the smallest indices are {', '.join(map(str, leasts))}: state by "
                             "--index-from whether the first block has 0 or 1")
         for axis, column in enumerate(columns):
             off = column % 1000 != 0
             if off.any():
                 at = int(np.flatnonzero(off)[0])
                 raise UserError(f"{self.read.line(at)}: the index {'ijk'[axis]} is "
-                                f"{in_short(int(column[at]), 3)}, no whole number: a coordinate?")
+                                f"{in_short(int(column[at]), 3)}, not an integer: a coordinate?")
             place = column // 1000 - start
             many = int(place.max()) + 1
             if words.blocks:
                 many = counts_of(words.blocks, "--blocks")[axis]
             if int(place.min()) < 0 or int(place.max()) >= many:
                 raise UserError(f"the index {'ijk'[axis]} is from {int(place.min()) + start} to "
-                                f"{int(place.max()) + start}, and not from {start} to "
+                                f"{int(place.max()) + start}, not from {start} to "
                                 f"{many - 1 + start}")
             if axis == 2 and words.from_top:
                 place = many - 1 - place

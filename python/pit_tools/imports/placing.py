@@ -1,4 +1,4 @@
-"""Puts the rows of exports on a grid, omits what is no rock, and tells of it."""
+"""Puts the rows of exports on a grid, omits what is not rock, and reports that."""
 from __future__ import annotations
 
 from collections import Counter
@@ -18,31 +18,31 @@ from pit_tools.imports.ordered import Ordered
 from pit_tools.imports.places import Places, grid_of
 from pit_tools.imports.read import Read
 from pit_tools.imports.sizes import Sizes
-from pit_tools.imports.telling import Telling, export_doubts
+from pit_tools.imports.rows_report import RowsReport, export_warnings
 from pit_tools.inventories.holdings import Holdings
 from pit_tools.inventories.reconciling import Circumstances, Wanted, compared, statement_of
-from pit_tools.inventories.rock import RockModel, rock_doubts
+from pit_tools.inventories.rock import RockModel, rock_warnings
 from pit_tools.inventories.statements import Known
 from pit_tools.plans.file import Grid
 from pit_tools.plans.grids import Axis
 from pit_tools.texts.decimals import in_short
 from pit_tools.texts.formats import MOST_ROWS
 
-# The most that pitc takes: kilograms a block, millionths of g/t.
+# The most that pitc accepts: kilograms per block, millionths of g/t.
 MOST_KILOGRAMS, MOST_GRADE = 10 ** 9, 10 ** 12
 
 
 class Placing:
-    """Puts rows on the grid, and makes of them the blocks of an instance."""
+    """Puts rows on the grid, and makes them the blocks of an instance."""
 
     def __init__(self, reading: Reading, sources: list[Source], report: Report,
                  wanted: Wanted = Wanted()) -> None:
         self.read, self.wanted = Read(reading, sources, report), wanted
         self.reading, self.words, self.report = reading, reading.words, report
-        self.places, self.telling = Places(self.read), Telling(self.read)
+        self.places, self.rows_report = Places(self.read), RowsReport(self.read)
 
     def imported(self) -> Imported:
-        """The export as blocks of a grid. Raises UserError if it is none."""
+        """Returns the export as blocks of a grid. Raises UserError if that is not possible."""
         report, merging, zoning = self.report, Merging(self.read), Zoning(self.read)
         axes, places = self.places.placed()
         rows = self.rows_of(axes, places)
@@ -50,7 +50,7 @@ class Placing:
             Ordered(self.read).judge_order(rows)
         records = pd.DataFrame({"file": self.read.file, "record": self.read.record,
                                 **{name: rows[name].to_numpy() for name in ("ix", "iy", "iz")}})
-        self.telling.tell_rows()
+        self.rows_report.report_rows()
         rows = merging.without_repeats(rows)
         rows, air = merging.without_air(rows)
         read, aside = rows, air
@@ -63,13 +63,13 @@ class Placing:
         self.judge_ranges(rows)
         grid = grid_of(axes, self.read.factors)
         held = self.holdings(read, aside, grid)
-        # Of millions of rows each table is let go before the next one.
+        # With millions of rows each table is freed before the next one.
         del read, aside
         report.facts += ["", *held.table(self.read.measures())]
-        self.telling.tell_grid(rows, axes)
+        self.rows_report.report_grid(rows, axes)
         solid = those(rows, rows["tonnes"] > 0)
         model = self.model(solid, axes, zones)
-        report.doubts += [*rock_doubts(model), *export_doubts(solid, model, axes, self.reading)]
+        report.doubts += [*rock_warnings(model), *export_warnings(solid, model, axes, self.reading)]
         del solid, model
         rows, files = cut_zones(rows[["ix", "iy", "iz", "tonnes", "grade", "zone"]], zones)
         if len(files) > len(zones):
@@ -84,7 +84,7 @@ class Placing:
         return found
 
     def reconcile(self, found: Imported, held: Holdings) -> None:
-        """Lays the resource report that was given beside the import, or tells that none was."""
+        """Compares the import with the given resource report, or reports that none was given."""
         wanted, facts = self.wanted, self.report.facts
         if not (wanted.reports or wanted.expected):
             facts += ["", "nothing was compared: give --reconcile REPORT, or --expect 'ZONE: 1.975 "
@@ -97,13 +97,13 @@ class Placing:
                       columns, measure.unit if measure else "")
         statement = statement_of(wanted.reports, wanted.expected, known)
         zones = self.read.zone_names()
-        lacking = {column: _by_zone(self.reading.missing.get(column, Counter()), zones)
-                   for column in columns}
+        absent = {column: _by_zone(self.reading.missing.get(column, Counter()), zones)
+                  for column in columns}
         found.reconciliation = compared(
             statement.rows, held, wanted.tolerance, self.read.measures(),
-            Circumstances(lacking, self.reading.counts["filtered"]))
+            Circumstances(absent, self.reading.counts["filtered"]))
         found.reconciliation.notes += [
-            *(f"taken: {taken}, since the report says no unit" for taken in statement.taken),
+            *(f"unit used: {taken}, since the report states none" for taken in statement.taken),
             *([f"not compared: the columns {', '.join(statement.ignored)}"]
               if statement.ignored else [])]
         facts += ["", *found.reconciliation.lines()]
@@ -136,7 +136,7 @@ class Placing:
         zero = self.read.taken("zero")
         if zero is not None:
             rows["zero"] = zero
-        if self.read.spot is None and self.words.is_merged:
+        if self.read.position is None and self.words.is_merged:
             fraction = masses.share
             if fraction is None and (self.words.volume or self.read.sizes is not None):
                 fraction = volume / self.read.volume_of(axes)
@@ -147,17 +147,17 @@ class Placing:
         return rows
 
     def judge_volumes(self, rows: pd.DataFrame, axes: Sequence[Axis], sizes: Sizes) -> None:
-        """Stops where rows of a place have more volume than it, but rows that stand twice."""
+        """Stops if rows at a position have more volume than it, except repeated rows."""
         sized = sizes.volumes(self.read.factors)
         if self.read.parts is not None:
             sized = sized[self.read.parts.row] * self.read.parts.share
-        again = (np.zeros(len(rows), bool) if self.read.spot is None
-                 else is_again(rows, self.read.spot))
+        again = (np.zeros(len(rows), bool) if self.read.position is None
+                 else is_again(rows, self.read.position))
         codes, _ = pd.factorize(key_of(rows))
         sums = np.bincount(codes, np.where(again, 0, np.nan_to_num(sized)))
         whole = (axes[0].step * axes[1].step * axes[2]
                  .step / 1e9 * self.read.factors[0] * self.read.factors[1] * self.read.factors[2])
-        # Points that fill blocks are not exactly as many in each level block.
+        # Points that fill blocks are not equally many in each level block.
         over = np.flatnonzero(sums > (1.1 if self.words.rotation else 1.02) * whole)
         if len(over):
             within = np.flatnonzero((codes == over[0]) & ~again)
@@ -165,7 +165,7 @@ class Placing:
                             f"one {figure(sums[over[0]] / whole)} of it: "
                             f"{self.read.with_cells(int(within[0]))} and "
                             f"{self.read.with_cells(int(within[1]))} are two of these: do exports "
-                            f"overlap, or are {sizes.names} no sizes?")
+                            f"overlap, or are {sizes.names} not sizes?")
 
     def volumes(self, axes: Sequence[Axis], count: int) -> np.ndarray:
         """Cubic metres of each row's block."""
@@ -183,7 +183,7 @@ class Placing:
         return np.full(count, self.read.volume_of(axes))
 
     def holdings(self, rows: pd.DataFrame, air: pd.DataFrame, grid: Grid) -> Holdings:
-        """What the zones of the export hold, before rows of a block are summed."""
+        """Returns what the zones of the export contain, before rows of a block are summed."""
         names = list(self.reading.zone_numbers)
         known, aside = (those(table, table["zone"] >= 0) for table in (rows, air))
         zone = known["zone"].to_numpy()
@@ -205,7 +205,7 @@ class Placing:
         return ~pd.Series(self.read.parts.row[rows["row"].to_numpy()]).duplicated().to_numpy()
 
     def model(self, rows: pd.DataFrame, axes: Sequence[Axis], zones: Sequence[str]) -> RockModel:
-        """The rock for what is mostly wrong of it."""
+        """Checks the rock for common mistakes."""
         def height(index: int) -> str:
             return in_short(axes[2].first + index * axes[2].step, 3)
         index = (rows["ix"].to_numpy(), rows["iy"].to_numpy(), rows["iz"].to_numpy())
@@ -215,14 +215,14 @@ class Placing:
                          bool(self.words.share or self.words.ore_share))
 
     def judge_ranges(self, rows: pd.DataFrame) -> None:
-        """Stops at what pitc would refuse as out of range."""
+        """Stops at what pitc would reject as out of range."""
         tonnes, grade = rows["tonnes"].to_numpy(), rows["grade"].to_numpy()
         if tonnes.max() > MOST_KILOGRAMS:
             at = int(tonnes.argmax())
             raise UserError(f"{self.read.line(int(rows['row'].iloc[at]))}: a block has "
-                            f"{tonnes[at] / 1000:,.0f} t, and pitc takes 1,000,000: are these "
-                            "kilograms, is a density in kg/m3, or does such a number stand for "
-                            "what is not known (--missing)?")
+                            f"{tonnes[at] / 1000:,.0f} t, but pitc accepts at most 1,000,000: are "
+                            "these kilograms, is a density in kg/m3, or does such a number mean a "
+                            "missing value (--missing)?")
         if grade.max() > MOST_GRADE:
             at = int(grade.argmax())
             raise UserError(f"{self.read.line(int(rows['row'].iloc[at]))}: a grade is "

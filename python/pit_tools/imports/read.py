@@ -1,4 +1,4 @@
-"""Rows of exports as they were read: where each stands, and what is known of all of them."""
+"""Rows of exports as they were read: the position of each, and what is known of all of them."""
 from __future__ import annotations
 
 from typing import Optional, Sequence
@@ -17,8 +17,8 @@ from pit_tools.texts.units import Measures, grade_unit_of
 
 class Read:
     """What was read, with what is found of it on the way: the turn of the model, the factor of the
-    unit along each axis, sizes that rows have of their own, the parts that they are cut into, and
-    where rows of sub-blocks are, one number for each centroid."""
+    unit along each axis, the rows' own sizes, the parts that they are cut into, and the positions
+    of rows of sub-blocks, one number for each centroid."""
 
     def __init__(self, reading: Reading, sources: list[Source], report: Report) -> None:
         self.reading, self.sources, self.report, self.words = (reading, sources, report,
@@ -27,7 +27,7 @@ class Read:
         self.factors = [1.0, 1.0, 1.0]
         self.sizes: Optional[Sizes] = None
         self.parts: Optional[Parts] = None
-        self.spot: Optional[np.ndarray] = None
+        self.position: Optional[np.ndarray] = None
         self.record, self.file = reading.column("record"), reading.column("file")
         self.count = len(self.record)
 
@@ -35,7 +35,7 @@ class Read:
         return self.sources[self.file[at]].place_of(int(self.record[at]))
 
     def with_cells(self, at: int) -> str:
-        """Where a row stands, and its cells."""
+        """Returns the position of a row in its file, and its cells."""
         cells = self.sources[self.file[at]].cells_of(int(self.record[at]))
         more = f" and {len(cells) - 12} more" if len(cells) > 12 else ""
         return f"{self.line(at)} ({', '.join(cells[:12])}{more})"
@@ -45,18 +45,18 @@ class Read:
         return columns_of(self.words, self.sources[0].names).measures[key] if text else None
 
     def unit_of(self, key: str) -> str:
-        """The unit that follows a word, or none."""
+        """Returns the unit that follows an option's column, or none."""
         measure = self.measure_of(key)
         return measure.unit if measure else ""
 
-    def of_axes(self, front: str) -> list[np.ndarray]:
-        """A column for each axis, or none where they were not read."""
-        found = [self.reading.joined(front + axis) for axis in COORDINATES]
+    def of_axes(self, prefix: str) -> list[np.ndarray]:
+        """Returns a column for each axis, or none if they were not read."""
+        found = [self.reading.joined(prefix + axis) for axis in COORDINATES]
         return [column for column in found if column is not None]
 
     def taken(self, name: str) -> Optional[np.ndarray]:
-        """A column of what was read, a row for each part of the export's rows; None if it was
-        not read of all."""
+        """Returns a column of what was read, a row for each part of the export's rows; None if it
+        was not read from all."""
         column = self.reading.joined(name)
         if column is None or len(column) != self.count:
             return None
@@ -69,7 +69,7 @@ class Read:
         return metres[0] * metres[1] * metres[2] * foot
 
     def zone_names(self) -> dict[int, str]:
-        """The names of zones by their numbers in what was read."""
+        """Returns the names of zones by their numbers in what was read."""
         return {number: name for name, number in self.reading.zone_numbers.items()}
 
     def measures(self) -> Measures:
@@ -78,6 +78,6 @@ class Read:
 
     @property
     def frame(self) -> Frame:
-        """How the export's coordinates lie beside those of the plan."""
+        """Returns the frame between the export's coordinates and the plan's."""
         x, y, z = self.factors
         return Frame((x, y, z), self.turn, "ft" if self.words.in_feet or x == 0.3048 else "m")

@@ -1,4 +1,4 @@
-"""Reads BASE.json, in which `pit-tools import` keeps what it read of an export."""
+"""Reads BASE.json, in which `pit-tools import` stores what it read from an export."""
 from __future__ import annotations
 
 import os
@@ -20,11 +20,11 @@ from pit_tools.texts.units import grade_unit_of
 
 @dataclass(frozen=True)
 class ImportedFile:
-    """What was imported: the exports and the words by which they were read, the grid with its
-    numbers of blocks, the zones with their files, the frame of the export's coordinates, the K
-    of zones that are so many benches below another, what was reported, and behind LOOK AT, the
-    resource report, and how many benches have rock. Paths of zone files are those from where
-    BASE.json was read."""
+    """What was imported: the exports and the options by which they were read, the grid with its
+    numbers of blocks, the zones with their files, the frame of the export's coordinates, the K of
+    zones that are a number of benches below another, the report, and its warnings after LOOK AT,
+    the resource report, and the number of benches that have rock. Paths of zone files are relative
+    to the folder from which BASE.json was read."""
 
     exports: list[str]
     words: Words
@@ -46,49 +46,49 @@ class ImportedFile:
 
     @property
     def x_bearing(self) -> float:
-        """Where the model's +x points, degrees clockwise from north."""
+        """Returns where the model's +x points, degrees clockwise from north."""
         turn = self.frame.turn
         return (90 - turn.angle) % 360 if turn else 90.0
 
 
 def read_imported(path: str) -> ImportedFile:
-    """Reads BASE.json. Raises UserError if it is none, OSError if it cannot be read."""
+    """Reads BASE.json. Raises UserError for any other file, OSError if it cannot be read."""
     inputs.reads(path)
     try:
-        told = read_json(path, "replace")
-        if "turn" in told:
+        record = read_json(path, "replace")
+        if "turn" in record:
             raise UserError(f"{path}: an older pit-tools wrote it, without the unit of the "
                             "export's coordinates: import again")
-        return _imported(told, path)
+        return _imported(record, path)
     except (ValueError, KeyError, TypeError, AttributeError, ArithmeticError, RecursionError):
         raise UserError(f"{path}: it is not what `pit-tools import` writes as BASE.json") from None
 
 
-def _imported(told: dict, path: str) -> ImportedFile:
-    """What BASE.json says. It raises ValueError, KeyError, TypeError or AttributeError for what
-    says nothing."""
+def _imported(record: dict, path: str) -> ImportedFile:
+    """Returns the contents of BASE.json. It raises ValueError, KeyError, TypeError or
+    AttributeError for anything else."""
     folder = os.path.dirname(path)
     grid = Grid.of([decimal_of(cell, f"{path}: grid") for key in ("origin", "size")
-                    for cell in told["grid"][key]])
-    wide, deep, high = map(index, told["grid"]["blocks"])
+                    for cell in record["grid"][key]])
+    wide, deep, high = map(index, record["grid"]["blocks"])
     if min(grid.size) <= 0 or min(wide, deep, high) < 1:
         raise ValueError("a grid without a block")
     zones = [(_text(zone["name"]), os.path.join(folder, _text(zone["file"])), zone.get("K"))
-             for zone in told["zones"]]
-    return ImportedFile(list(map(_text, told["exports"])), Words.of_record(told["words"]), grid,
+             for zone in record["zones"]]
+    return ImportedFile(list(map(_text, record["exports"])), Words.of_record(record["words"]), grid,
                         (wide, deep, high), [name for name, _, _ in zones],
-                        [path for _, path, _ in zones], Frame.of_record(told["frame"]),
+                        [path for _, path, _ in zones], Frame.of_record(record["frame"]),
                         {name: index(K) for name, _, K in zones if K},
-                        list(map(_text, told.get("told", []))),
-                        list(map(_text, told.get("look_at", []))),
-                        Reconciled.of_record(told.get("reconciled")),
-                        index(told["grid"].get("rock_benches", high)))
+                        list(map(_text, record.get("told", []))),
+                        list(map(_text, record.get("look_at", []))),
+                        Reconciled.of_record(record.get("reconciled")),
+                        index(record["grid"].get("rock_benches", high)))
 
 
-def _text(told: object) -> str:
-    if not isinstance(told, str):
-        raise TypeError(f"no text: {told!r}")
-    return told
+def _text(record: object) -> str:
+    if not isinstance(record, str):
+        raise TypeError(f"not a text: {record!r}")
+    return record
 
 
 def frame_of(path: Optional[str], note: PlanNote) -> Frame:

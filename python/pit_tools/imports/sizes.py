@@ -1,5 +1,5 @@
-"""Sizes of rows beside the grid: sub-blocks, blocks that take several places, and such as cross the
-border of a place.
+"""Sizes of rows compared with the grid: sub-blocks, blocks that occupy several positions, and
+blocks that cross the border of a position.
 
 Lengths are in thousandths of the export's unit."""
 from __future__ import annotations
@@ -14,9 +14,8 @@ from pit_tools.errors import UserError
 from pit_tools.plans.grids import AXES, Axis, parents_of
 from pit_tools.texts.decimals import in_short
 
-# How much of a size may lie beyond a border, and how much sizes may differ that are one: they are
-# rounded.
-ROOM = 0.02
+# How much of a size may be beyond a border, and how much equal sizes may differ: they are rounded.
+TOLERANCE = 0.02
 
 # The most places that rows are cut into.
 MOST_PARTS = 50_000_000
@@ -46,39 +45,38 @@ def sizes_of_axes(axes: Sequence[Axis], count: int) -> Sizes:
 
 
 def judge_own_grid(own: np.ndarray, sizes: Sizes, with_cells: Callable[[int], str]) -> None:
-    """Stops where blocks do not lie side by side along the axes that a rotation says: the
-    edges of rows of the largest size are then on no grid of that size."""
+    """Stops if blocks are not adjacent along the axes of a rotation: the edges of rows of the
+    largest size are then on no grid of that size."""
     largest = [float(np.nanmax(size)) for size in sizes.along]
-    is_whole = np.all([size > 0.98 * most for size, most in zip(sizes.along, largest)], axis=0)
+    is_largest = np.all([size > 0.98 * most for size, most in zip(sizes.along, largest)], axis=0)
     for axis, name in enumerate(AXES):
-        place = own[is_whole, axis] / largest[axis]
+        place = own[is_largest, axis] / largest[axis]
         off = np.abs((place - place[:1] + 0.5) % 1 - 0.5) if len(place) else place
         if (off > 0.1).any():
-            at = int(np.flatnonzero(is_whole)[int(off.argmax())])
-            raise UserError(f"so turned, {with_cells(at)} lies {off.max():.2f} of a block beside "
-                            f"the others along the model's {name}: are the turns of --rotation "
-                            "others, or in another order, or is a sign another?")
+            at = int(np.flatnonzero(is_largest)[int(off.argmax())])
+            raise UserError(f"with this turn, {with_cells(at)} is {off.max():.2f} of a block away "
+                            f"from the others' grid along the model's {name}: are the turns of "
+                            "--rotation others, or in another order, or is a sign wrong?")
 
 
-def sizes_told(sizes: np.ndarray) -> str:
-    """The sizes along an axis, those of most rows first."""
+def sizes_text(sizes: np.ndarray) -> str:
+    """Returns the sizes along an axis, the most frequent first."""
     values, counts = np.unique(np.rint(sizes[np.isfinite(sizes)]).astype(np.int64),
                                return_counts=True)
     most = np.argsort(-counts, kind="stable")[:4]
-    told = ", ".join(f"{in_short(values[at], 3)} ({counts[at]:,} rows)" for at in most)
-    return told + (f" and {len(values) - 4:,} others" if len(values) > 4 else "")
+    message = ", ".join(f"{in_short(values[at], 3)} ({counts[at]:,} rows)" for at in most)
+    return message + (f" and {len(values) - 4:,} others" if len(values) > 4 else "")
 
 
 def judge_sizes(sizes: Sizes, axes: Sequence[Axis], with_cells: Callable[[int], str]) -> None:
-    """Stops at the first row whose size is not that of the grid."""
+    """Stops at the first row whose size differs from the grid's."""
     for axis, size, name in zip(axes, sizes.along, AXES):
-        off = np.abs(size - axis.step) > ROOM * axis.step + 2
+        off = np.abs(size - axis.step) > TOLERANCE * axis.step + 2
         if off.any():
             raise UserError(f"{sizes.names}: the grid has blocks of {in_short(axis.step, 3)} along "
-                            f"{name}, and rows have sizes of {sizes_told(size)}, as "
+                            f"{name}, but rows have sizes of {sizes_text(size)}, as "
                             f"{with_cells(int(np.flatnonzero(off)[0]))}. --parents X,Y,Z, with the "
-                            "size that blocks are to have, sums up smaller ones and cuts greater "
-                            "ones")
+                            "wanted size of blocks, sums up smaller ones and cuts larger ones")
 
 
 @dataclass
@@ -93,13 +91,13 @@ class Parts:
 
     @property
     def is_cut(self) -> bool:
-        """Whether a row has several parts."""
+        """Returns whether a row has several parts."""
         return bool(self.number.any())
 
     def shared(self, amounts: np.ndarray) -> np.ndarray:
-        """Integer amounts of the parts, by those of their rows (one for each part): sums stay what
-        they were, parts of equal shares differ by one at most, and what is missing (-1) stays
-        so."""
+        """Returns integer amounts of the parts, from those of their rows (one for each part): sums
+        stay unchanged, parts of equal shares differ by at most one, and missing values (-1) stay
+        missing."""
         found = np.floor(amounts * self.share).astype(np.int64)
         rest = amounts - np.bincount(self.row, found)[self.row]
         return np.where(amounts < 0, -1, found + (self.number < rest))
@@ -108,8 +106,8 @@ class Parts:
 def parts_of(values: Sequence[np.ndarray], sizes: Optional[Sizes], corners: Sequence[int],
              parents: Sequence[int], with_cells: Callable[[int], str], has_corner: bool,
              may_cross: bool = False) -> Parts:
-    """The places of sub-blocks, and of blocks that take several, whose borders must be those
-    of places, unless blocks `may_cross` these: such are cut there."""
+    """Returns the positions of sub-blocks, and of blocks that occupy several, whose borders must be
+    those of positions, unless blocks `may_cross` these: such blocks are cut there."""
     spans: list[tuple[np.ndarray, np.ndarray, np.ndarray]] = []
     many = []
     for axis, name in enumerate(AXES):
@@ -119,8 +117,8 @@ def parts_of(values: Sequence[np.ndarray], sizes: Optional[Sizes], corners: Sequ
             half = np.nan_to_num(sizes.along[axis]) / 2
             low = (values[axis] - half - corners[axis]) / parents[axis]
             high = (values[axis] + half - corners[axis]) / parents[axis]
-            first = np.floor(low + ROOM).astype(np.int64)
-            last = np.maximum(first, np.ceil(high - ROOM).astype(np.int64) - 1)
+            first = np.floor(low + TOLERANCE).astype(np.int64)
+            last = np.maximum(first, np.ceil(high - TOLERANCE).astype(np.int64) - 1)
         if sizes is None or not may_cross:
             if sizes is not None:
                 _judge_borders(low, high, last > first, name, with_cells, has_corner)
@@ -130,8 +128,8 @@ def parts_of(values: Sequence[np.ndarray], sizes: Optional[Sizes], corners: Sequ
     count = many[0] * many[1] * many[2]
     if int(count.sum()) > MOST_PARTS:
         raise UserError(f"rows would be cut into {int(count.sum()):,} parts, as "
-                        f"{with_cells(int(count.argmax()))}: leave out air by --where, or take "
-                        "greater blocks")
+                        f"{with_cells(int(count.argmax()))}: omit air by --where, or use larger "
+                        "blocks")
     row = np.repeat(np.arange(len(count)), count)
     number = np.arange(len(row)) - np.repeat(np.cumsum(count) - count, count)
     wide, deep = many[0][row], many[1][row]
@@ -147,21 +145,21 @@ def parts_of(values: Sequence[np.ndarray], sizes: Optional[Sizes], corners: Sequ
 
 def _judge_borders(low: np.ndarray, high: np.ndarray, is_wide: np.ndarray, name: str,
                    with_cells: Callable[[int], str], has_corner: bool) -> None:
-    """Stops at a row that takes several places along an axis, and ends within one."""
-    crosses = is_wide & ((np.abs(low - np.rint(low)) > ROOM)
-                         | (np.abs(high - np.rint(high)) > ROOM))
+    """Stops at a row that occupies several positions along an axis, and ends within one."""
+    crosses = is_wide & ((np.abs(low - np.rint(low)) > TOLERANCE)
+                         | (np.abs(high - np.rint(high)) > TOLERANCE))
     if crosses.any():
-        why = "is --corner another" if has_corner else "is --corner to be given"
-        raise UserError(f"{with_cells(int(np.flatnonzero(crosses)[0]))}: the block goes beyond its "
-                        f"parent along {name}, as {int(crosses.sum()):,} rows: are parents of "
-                        f"another size, or {why}? --regularise in place of --parents cuts blocks "
-                        "at the borders of greater ones")
+        why = "is --corner wrong" if has_corner else "is --corner needed"
+        raise UserError(f"{with_cells(int(np.flatnonzero(crosses)[0]))}: the block extends beyond "
+                        f"its parent along {name}, as in {int(crosses.sum()):,} rows: are parents "
+                        f"of another size, or {why}? --regularise in place of --parents cuts "
+                        "blocks at the borders of larger ones")
 
 
 def scattered(values: Sequence[np.ndarray], sizes: Sizes, rotation: np.ndarray,
               corners: Sequence[int], parents: Sequence[int]) -> Parts:
-    """Blocks that dip, spread over level ones: each is taken as points that fill it evenly, at
-    most a quarter of a level block apart, and a part is what lies in one level block.
+    """Blocks that dip, spread over level ones: each becomes points that fill it evenly, at most a
+    quarter of a level block apart, and a part is the points in one level block.
 
     `rotation` has the directions of the model's own axes as its columns; coordinates are those of
     centroids in the level system."""
@@ -170,14 +168,14 @@ def scattered(values: Sequence[np.ndarray], sizes: Sizes, rotation: np.ndarray,
     count = many[0] * many[1] * many[2]
     if int(count.sum()) > 4 * MOST_PARTS:
         raise UserError(f"--regularise: {int(count.sum()):,} points would fill the blocks of a "
-                        "model that dips: leave out air by --where, or take greater blocks")
-    pieces = []
+                        "model that dips: omit air by --where, or use larger blocks")
+    chunks = []
     ends = np.searchsorted(np.cumsum(count), np.arange(1, int(count.sum()) // MOST_POINTS + 2)
                            * MOST_POINTS)
     for start, end in zip([0, *ends], [*ends, len(count)]):
-        pieces.append(_points_in(values, sizes, rotation, corners, parents, many,
+        chunks.append(_points_in(values, sizes, rotation, corners, parents, many,
                                  slice(int(start), int(end))))
-    table = pd.concat(pieces, ignore_index=True)
+    table = pd.concat(chunks, ignore_index=True)
     number = table.groupby("row").cumcount().to_numpy()
     row = table["row"].to_numpy()
     return Parts(row, number, table["share"].to_numpy(),

@@ -1,5 +1,5 @@
-"""From a mining package's export to zone files: reads rows, puts them on the grid, and tells what
-was read, omitted and odd.
+"""From a mining package's export to zone files: reads rows, puts them on the grid, and reports what
+was read, omitted and unusual.
 
     from pit_tools.imports.steps import Words, import_export
     words = Words(x="XC", y="YC", z="ZC", tonnes="T", grade="AU oz/st", zone=["DOMAIN"])
@@ -14,7 +14,7 @@ from typing import Sequence
 
 from pit_tools import progress
 from pit_tools.errors import UserError
-from pit_tools.exports.packages import recognised, told_of, words_by_package
+from pit_tools.exports.packages import recognised, text_of, words_by_package
 from pit_tools.exports.reading import Reading, read_export
 from pit_tools.exports.report import Report
 from pit_tools.exports.words import Words
@@ -27,18 +27,18 @@ __all__ = ["Imported", "Report", "Wanted", "Words", "import_export"]
 
 
 def import_export(paths: Sequence[str], words: Words, wanted: Wanted = Wanted()) -> Imported:
-    """Reads exports, one behind the other, puts their rows on one grid, and lays a resource report
-    beside them where one is wanted.
+    """Reads exports, one after the other, puts their rows on one grid, and compares them with a
+    resource report if one is given.
 
-    It raises UserError for what cannot be right, with its cause and, if there is one, its
-    line; what may be wrong is told by the report, and figures that differ from a resource
-    report by `reconciliation.judge` of the answer. Nothing is written."""
+    It raises UserError for what cannot be right, with its cause and, if there is one, its line; the
+    report warns of what may be wrong, and `reconciliation.judge` of the result reports figures that
+    differ from a resource report. Nothing is written."""
     report = Report()
     has_package = bool(words.package)
     if has_package:
         progress.step("reads the frame")
-        words, told = words_by_package(words, paths)
-        report.facts.append(told)
+        words, message = words_by_package(words, paths)
+        report.facts.append(message)
     words.judge()
     inputs.reads(*paths)
     progress.step("reads rows")
@@ -46,12 +46,12 @@ def import_export(paths: Sequence[str], words: Words, wanted: Wanted = Wanted())
     sources = [source for path in paths for source in read_export(path, words, reading, report)]
     if not reading.counts["rows"]:
         raise UserError(f"{paths[0]}: there is no row below the "
-                        "header" + (" that the filter lets through" if words.where else ""))
+                        "header" + (" that the filter keeps" if words.where else ""))
     progress.step("puts rows on the grid")
     name = "" if has_package else recognised(sources[0])
     if name:
-        report.facts.append(told_of(name))
+        report.facts.append(text_of(name))
     try:
         return Placing(reading, sources, report, wanted).imported()
     except UserError as error:
-        raise UserError(f"{error}; {told_of(name)}" if name else str(error)) from None
+        raise UserError(f"{error}; {text_of(name)}" if name else str(error)) from None

@@ -9,7 +9,7 @@ import pandas as pd
 from scipy import sparse
 
 from pit_tools.errors import UserError
-from pit_tools.texts import spelling
+from pit_tools.texts import number_texts
 
 
 @dataclass(frozen=True)
@@ -37,7 +37,7 @@ class Blocks:
 
 @dataclass(frozen=True)
 class Uses:
-    """What a block uses of a resource at a destination: arrays of m lines, which rise by (block,
+    """Each block's use of a resource at a destination: arrays of m lines, which rise by (block,
     destination, resource). In a CPIT every destination is 0."""
 
     block: np.ndarray  #: int32
@@ -61,8 +61,7 @@ class Uses:
 
 @dataclass(frozen=True)
 class Limit:
-    """What is used of a resource in a period lies from `least` to `most`; either may be
-    infinite."""
+    """The use of a resource in a period must be from `least` to `most`; either may be infinite."""
 
     resource: int
     period: int
@@ -77,7 +76,7 @@ class Limit:
 
     @property
     def ends(self) -> list[float]:
-        """The one or two numbers that stand in its line."""
+        """Returns the one or two numbers of its line."""
         return [end for end in (self.least, self.most) if np.isfinite(end)]
 
 
@@ -108,21 +107,22 @@ class Problem:
         return self.values.shape[1]
 
     def use_matrix(self, resource: int) -> sparse.csr_matrix:
-        """What is used of a resource, (blocks, destinations)."""
+        """Returns the use of a resource, (blocks, destinations)."""
         return self.uses.matrix(resource, (len(self.values), self.destinations))
 
     def discounts(self) -> np.ndarray:
-        """What a value of each period counts, (periods,): 1, 1 / (1 + rate), .."""
+        """Returns the discount factor of each period, (periods,): 1, 1 / (1 + rate), .."""
         return (1 + self.rate) ** -np.arange(self.periods, dtype=float)
 
 
 @dataclass(frozen=True)
 class Instance:
     """The files of an instance; a part that was not read is None. `precedence` is (n, n), with 1 at
-    (b, p) if block b waits for block p. Its arcs may have any format that `arcs_of` accepts."""
+    (b, p) if block p is a predecessor of block b. Its arcs may have any format that `arcs_of`
+    accepts."""
 
     blocks: Optional[Blocks] = None
-    precedence: Optional[sparse.csr_matrix] = None  #: (n, n), int8, 1 where row b waits for p
+    precedence: Optional[sparse.csr_matrix] = None  #: (n, n), int8, 1 in row b at its predecessors
     upit: Optional[UltimatePit] = None
     pcpsp: Optional[Problem] = None
     cpit: Optional[Problem] = None
@@ -132,12 +132,13 @@ class Instance:
             object.__setattr__(self, "precedence", arcs_of(self.precedence))
 
     def counts(self) -> str:
-        """The line of `pitc check`: blocks, arcs, coefficients, limits, those of the CPIT."""
+        """Returns the line of `pitc check`: blocks, arcs, coefficients, limits, and the CPIT's
+        coefficients."""
         arcs: Any = present(self.precedence, "precedence file")
-        told = f"blocks {len(present(self.blocks, 'block file'))} arcs {arcs.nnz}"
+        message = f"blocks {len(present(self.blocks, 'block file'))} arcs {arcs.nnz}"
         if self.pcpsp:
-            told += f" coefficients {len(self.pcpsp.uses)} limits {len(self.pcpsp.limits)}"
-        return told + (f" cpit {len(self.cpit.uses)}" if self.cpit else "")
+            message += f" coefficients {len(self.pcpsp.uses)} limits {len(self.pcpsp.limits)}"
+        return message + (f" cpit {len(self.cpit.uses)}" if self.cpit else "")
 
 
     def problem(self, kind: str) -> Problem:
@@ -156,17 +157,18 @@ def present(part: Optional[_Part], what: str) -> _Part:
     Raises UserError if it was not read.
     """
     if part is None:
-        raise UserError(f"there is no {what} of this instance")
+        raise UserError(f"this instance has no {what}")
     return part
 
 
 def cents(values: np.ndarray) -> np.ndarray:
-    """Values, of any shape, in units of 100 cents, as whole cents, int64: their sums are exact.
+    """Returns values, of any shape, in units of 100 cents, as integer cents, int64: their sums are
+    exact.
 
-    Raises UserError if one is infinite, NaN, above about 90,000 billion, or no whole cents:
-    `spelling.multiples_of` takes finer ones.
+    Raises UserError if one is infinite, NaN, above about 90,000 billion, or not an integer number
+    of cents: `number_texts.multiples_of` accepts finer ones.
     """
-    return spelling.multiples_of(values, [2])[0]
+    return number_texts.multiples_of(values, [2])[0]
 
 
 def arcs_of(precedence: Any) -> sparse.csr_matrix:
@@ -175,11 +177,11 @@ def arcs_of(precedence: Any) -> sparse.csr_matrix:
 
     Raises UserError if it is not square.
     """
-    # The class would give indices and starts one type, of up to twice the size.
+    # The class would give indices and starts the same type, of up to twice the size.
     arcs = (precedence if isinstance(precedence, sparse.csr_matrix)
             else sparse.csr_matrix(precedence))
     if arcs.shape[0] != arcs.shape[1]:
-        raise UserError(f"arcs are a matrix of as many rows as columns, and these {arcs.shape}")
+        raise UserError(f"arcs must be a square matrix, but these are {arcs.shape}")
     if not (arcs.has_canonical_format and arcs.data.all()):
         arcs = arcs.copy()
         arcs.sum_duplicates()

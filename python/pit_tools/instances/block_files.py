@@ -10,17 +10,17 @@ import numpy as np
 from pit_tools.errors import UserError
 from pit_tools.instances.arrays import Blocks
 from pit_tools.texts.formats import MOST_AMOUNT, MOST_BLOCKS, MOST_INDEX, MOST_ZONE
-from pit_tools.texts.lines import Piece, Rounding, Told, numbers_of, pieces_of, refuse_row
+from pit_tools.texts.lines import Chunk, Rounding, Told, numbers_of, chunks_of, reject_row
 
-#: What the fields of a block are, and the largest number of each.
+#: The fields of a block, and the largest number of each.
 MOST_OF_A_BLOCK = {"x": MOST_INDEX, "y": MOST_INDEX, "z": MOST_INDEX, "tonnes": MOST_AMOUNT,
                    "the grade": MOST_AMOUNT, "the zone": MOST_ZONE}
 
 
 @dataclass(frozen=True)
 class Columns:
-    """Which fields of a block line are what, counted from 1; 0 means none. A block's
-    identifier and coordinates are fields 1 to 4, and other fields are skipped."""
+    """The meanings of a block line's fields, counted from 1; 0 means none. A block's identifier and
+    coordinates are fields 1 to 4, and other fields are skipped."""
 
     tonnes: int = 0
     grade: int = 0
@@ -45,42 +45,42 @@ class _Blocks:
         self.parts: list[list[np.ndarray]] = []
         self.row = 0
 
-    def take(self, piece: Piece) -> None:
-        """Takes the named fields of lines."""
-        numbers = numbers_of(piece, self.fields, "a block line", self.length)
+    def take(self, chunk: Chunk) -> None:
+        """Reads the named fields of lines."""
+        numbers = numbers_of(chunk, self.fields, "a block line", self.length)
         if not self.parts and self.told is not None:
-            self._tell_fields(piece, self.told)
-        whole = [piece.whole(numbers[0], "the identifier", 0, MOST_BLOCKS)]
+            self._report_fields(chunk, self.told)
+        whole = [chunk.whole(numbers[0], "the identifier", 0, MOST_BLOCKS)]
         ends = (0, MOST_INDEX) if self.told is None else (-2**31, 2**31 - 1)
-        whole += [piece.whole(numbers[at], f"the index {name}", *ends)
+        whole += [chunk.whole(numbers[at], f"the index {name}", *ends)
                   for at, name in enumerate("xyz", 1)]
         own: dict[str, np.ndarray] = {
             "tonnes": np.zeros(numbers.shape[1]), "grade": np.zeros(numbers.shape[1]),
             "zone": np.zeros(numbers.shape[1], np.int32)}
         for name, column in zip(self.names, numbers[4:]):
-            own[name] = self._own(piece, name, column)
+            own[name] = self._own(chunk, name, column)
         self.parts.append([*whole, *own.values()])
 
-    def _own(self, piece: Piece, name: str, column: np.ndarray) -> np.ndarray:
-        """A column of tonnes, grades or zones, within what `pitc check` takes."""
+    def _own(self, chunk: Chunk, name: str, column: np.ndarray) -> np.ndarray:
+        """Returns a column of tonnes, grades or zones, within the ranges of `pitc check`."""
         if name == "zone":
-            return piece.whole(column, "the zone", 0, MOST_ZONE)
+            return chunk.whole(column, "the zone", 0, MOST_ZONE)
         is_wrong = (column < 0) | (column > MOST_AMOUNT)
         if is_wrong.any():
             row = int(is_wrong.argmax())
-            piece.refuse(row, f"the {name} is {column[row]:.15g}, and `pitc check` takes 0 to "
+            chunk.reject(row, f"the {name} is {column[row]:.15g}, but `pitc check` accepts 0 to "
                               f"{MOST_AMOUNT:,}")
-        return self.roundings[name].of(piece, column, f"the {name}")
+        return self.roundings[name].of(chunk, column, f"the {name}")
 
-    def _tell_fields(self, piece: Piece, told: Told) -> None:
-        """Tells which fields are omitted, by those of the first line."""
-        cells = piece.line_of(0)[1].split()
+    def _report_fields(self, chunk: Chunk, told: Told) -> None:
+        """Reports which fields are omitted, with those of the first line."""
+        cells = chunk.line_of(0)[1].split()
         left = [f"{at} (`{cell[:20]}`)" for at, cell in enumerate(cells, 1)
                 if at - 1 not in self.fields]
         if left:
             more = f" and {len(left) - 12} more" if len(left) > 12 else ""
-            told.tell(f"{os.path.basename(self.path)}: fields that were left out, as the first "
-                      f"line has them: {', '.join(left[:12])}{more}")
+            told.tell(f"{os.path.basename(self.path)}: omitted fields, as in the first line: "
+                      f"{', '.join(left[:12])}{more}")
         for name in ("tonnes", "grade"):
             if name not in self.names:
                 told.tell(f"no field was named for {name}: --{name} N; it is 0 for all blocks")
@@ -88,26 +88,26 @@ class _Blocks:
     def blocks(self) -> tuple[Blocks, int]:
         """The blocks, and the first identifier, 0 or 1."""
         if not self.parts:
-            raise UserError(f"{self.path}: there are no blocks")
+            raise UserError(f"{self.path}: it has no blocks")
         ids, *columns = map(np.concatenate, zip(*self.parts))
         self.parts.clear()
         first = int(ids.min())
         if self.told is None and not np.array_equal(ids, np.arange(len(ids))):
-            refuse_row(pieces_of(self.path, True), int((ids != np.arange(len(ids))).argmax()),
+            reject_row(chunks_of(self.path, True), int((ids != np.arange(len(ids))).argmax()),
                        "identifiers are not 0, 1, 2, ..")
         if first > 1:
-            refuse_row(pieces_of(self.path), int(ids.argmin()),
-                       "identifiers are not consecutive from 0 or 1: the least is this one")
+            reject_row(chunks_of(self.path), int(ids.argmin()),
+                       "identifiers are not consecutive from 0 or 1: the smallest is this one")
         if not np.array_equal(ids, np.arange(first, first + len(ids))):
             order = np.argsort(ids, kind="stable")
             steps = np.flatnonzero(np.diff(ids[order]) != 1)
             if len(steps):
-                refuse_row(pieces_of(self.path), int(order[steps[0] + 1]),
-                           f"identifiers are not consecutive: {ids[order[steps[0]]]} is the one "
-                           "before")
+                reject_row(chunks_of(self.path), int(order[steps[0] + 1]),
+                           f"identifiers are not consecutive: {ids[order[steps[0]]]} precedes this "
+                           "one")
             columns = [column[order] for column in columns]
         for name, rounding in self.roundings.items():
-            rounding.tell(pieces_of(self.path, self.told is None), f"{name} were", self.told)
+            rounding.tell(chunks_of(self.path, self.told is None), f"{name} were", self.told)
         axes = [self._index(name, column) for name, column in zip("xyz", columns)]
         return Blocks(*axes, *columns[3:]), first
 
@@ -115,30 +115,30 @@ class _Blocks:
         """A coordinate as an index from 0 on."""
         least, most = int(index.min()), int(index.max())
         if least < 0 and self.told is not None:
-            self.told.tell(f"{name} was moved by {-least}, since indices count from 0")
+            self.told.tell(f"{name} was shifted by {-least}, since indices count from 0")
             index, most = index - np.int32(least), most - least
         if most > MOST_INDEX:
-            raise UserError(f"{self.path}: {name} goes to {most}, and indices to {MOST_INDEX}: are "
-                            "these metres?")
+            raise UserError(f"{self.path}: {name} is up to {most}, but indices only to "
+                            f"{MOST_INDEX}: are these metres?")
         return index
 
 
 def read_columns(path: str, columns: Columns, told: Optional[Told]) -> tuple[Blocks, int]:
-    """The blocks in order of identifier, and the first identifier, 0 or 1.
+    """Returns the blocks in order of identifier, and the first identifier, 0 or 1.
 
-    Raises UserError, with the line, if identifiers are not consecutive, coordinates are no
-    indices, a named field is missing, or it is none that `pitc check` takes.
+    Raises UserError, with the line, if identifiers are not consecutive, coordinates are not
+    indices, a named field is missing, or it is one that `pitc check` rejects.
     """
     reader = _Blocks(path, columns, told)
-    for piece in pieces_of(path, told is None):
-        reader.take(piece)
+    for chunk in chunks_of(path, told is None):
+        reader.take(chunk)
     return reader.blocks()
 
 
 def read_blocks(path: str) -> Blocks:
-    """A block file, `id x y z tonnes grade zone`: tonnes in t, grades in g/t.
+    """Reads a block file, `id x y z tonnes grade zone`: tonnes in t, grades in g/t.
 
-    Raises UserError if a line has other fields or numbers than `pitc check` takes, or identifiers
+    Raises UserError if a line has other fields or numbers than `pitc check` accepts, or identifiers
     are not 0, 1, 2, ..
     """
     return read_columns(path, Columns(5, 6, 7), None)[0]

@@ -1,4 +1,4 @@
-"""Runs `pitc compile` beside this program, with a bar of the bytes that it reads and writes."""
+"""Runs `pitc compile` as a child process, with a bar of the bytes that it reads and writes."""
 from __future__ import annotations
 
 import os
@@ -17,8 +17,8 @@ INTERVAL = 0.2
 
 def compile_shown(words: Sequence[str], reads: Sequence[str], base: str) -> tuple[int, str]:
     """Runs a command line that reads some files and writes an instance at a base; returns its
-    status, or 128 and the number of the signal that ended it, and its errors. What it prints is
-    handed on unchanged, behind the bar.
+    status, or 128 plus the number of the signal that ended it, and its errors. Its output is passed
+    on unchanged, without disturbing the bar.
 
     Raises UserError if the program cannot be run.
     """
@@ -32,18 +32,19 @@ def compile_shown(words: Sequence[str], reads: Sequence[str], base: str) -> tupl
     except OSError as error:
         raise UserError(f"{words[0]} cannot be run: {error.strerror}") from None
     with child, interrupts.taken(lambda number, _: child.send_signal(number)):
-        told = _watched(child, reads, base) if is_shown else child.communicate()
-    for text, stream in zip(told, (sys.stdout, sys.stderr)):
+        printed = _watched(child, reads, base) if is_shown else child.communicate()
+    for text, stream in zip(printed, (sys.stdout, sys.stderr)):
         if text:
             stream.buffer.write(text)
             stream.flush()
     status = child.returncode if child.returncode >= 0 else 128 - child.returncode
-    return status, (told[1] or b"").decode("utf-8", "replace")
+    return status, (printed[1] or b"").decode("utf-8", "replace")
 
 
 def _watched(child: subprocess.Popen, reads: Sequence[str],
              base: str) -> tuple[Optional[bytes], Optional[bytes]]:
-    """What a program prints, as far as that comes here; until it ends its bytes are shown."""
+    """Returns what a program prints, if that is collected here; until it ends its bytes are
+    shown."""
     total = sum(map(_size, reads))
     growth = progress.Growth()
     try:
@@ -68,13 +69,14 @@ def _size(path: str) -> int:
 
 
 def _bytes_of(process: int) -> tuple[int, int]:
-    """How many bytes a process has read and written by now; 0 where the system does not tell."""
+    """Returns the number of bytes that a process has read and written by now; 0 if the system does
+    not report it."""
     try:
         with open(f"/proc/{process}/io", encoding="ascii") as file:
-            told = dict(line.split(": ") for line in file.read().splitlines())
+            printed = dict(line.split(": ") for line in file.read().splitlines())
     except OSError:
         return 0, 0
-    return int(told["rchar"]), int(told["wchar"])
+    return int(printed["rchar"]), int(printed["wchar"])
 
 
 def _grows(base: str) -> str:

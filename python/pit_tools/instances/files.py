@@ -2,14 +2,14 @@
 
     from pit_tools import read_instance, write_instance
     mine = read_instance("deposit")              # deposit.blocks, .prec, .upit, .pcpsp, .cpit
-    mine.precedence                              # CSR, (b, p) where block b waits for block p
+    mine.precedence                              # CSR, (b, p) if block p precedes b
     mine.pcpsp.values                            # (blocks, destinations), in units of 100 cents
     mine.pcpsp.uses.matrix(0)                    # tonnes of resource 0, (blocks, destinations)
     write_instance(mine, "copy")
 
-What each line of the files means stands in docs/formats.md. Files that `pitc check` accepts are
-read too, with blank lines, comments and tabs. Values are floats nearest to their decimals: sums in
-whole cents are exact by `cents(values)`.
+docs/formats.md defines each line of the files. All files that `pitc check` accepts are read, with
+blank lines, comments and tabs. Values are floats nearest to their decimals: `cents(values)` makes
+sums in cents exact.
 """
 from __future__ import annotations
 
@@ -26,10 +26,10 @@ from pit_tools.files.records import status_of
 from pit_tools.instances.arrays import Blocks, Instance, Problem, UltimatePit, Uses, arcs_of
 from pit_tools.instances.block_files import MOST_OF_A_BLOCK, read_blocks
 from pit_tools.instances.models import (COEFFICIENTS, LIMITS, OBJECTIVE, read_model, read_upit)
-from pit_tools.texts import spelling
+from pit_tools.texts import number_texts
 from pit_tools.texts.formats import (MOST_BLOCKS, MOST_DESTINATIONS, MOST_PERIODS, MOST_RESOURCES,
                                      NAME, WHAT_A_NAME_IS)
-from pit_tools.texts.lines import Piece, integers_of, line_lengths, opened, pieces_of
+from pit_tools.texts.lines import Chunk, integers_of, line_lengths, opened, chunks_of
 
 TEXTS = ("blocks", "prec", "upit", "pcpsp", "cpit")
 
@@ -45,61 +45,63 @@ def remarks_of(path: str) -> list[str]:
     """
     with opened(path) as file:
         lines = [file.readline(200) for _ in range(9)]
-    front = takewhile(lambda line: line.startswith(b"%"), lines)
-    return [line[1:].decode("utf-8", "replace").strip() for line in front]
+    prefix = takewhile(lambda line: line.startswith(b"%"), lines)
+    return [line[1:].decode("utf-8", "replace").strip() for line in prefix]
 
 
-def arcs_in(piece: Piece) -> tuple[np.ndarray, np.ndarray, np.ndarray]:
+def arcs_in(chunk: Chunk) -> tuple[np.ndarray, np.ndarray, np.ndarray]:
     """The identifiers, numbers of predecessors, and predecessors of lines `id k p1 .. pk`."""
-    lengths = line_lengths(piece.text)
-    fields = integers_of(piece.text)
+    lengths = line_lengths(chunk.text)
+    fields = integers_of(chunk.text)
     starts = np.cumsum(lengths) - lengths
     if not len(lengths) or len(fields) != lengths.sum() or lengths.min() < 2:
-        for row, (_, line) in enumerate(piece.lines()):
+        for row, (_, line) in enumerate(chunk.lines()):
             cells = line.split()
             if len(cells) < 2 or not all(cell.lstrip("+-").isdecimal() for cell in cells):
-                piece.refuse(row, "no line `id k p1 .. pk`")
-        raise UserError(f"{piece.path}: lines from {piece.first} on cannot be read")
+                chunk.reject(row, "it is not a line `id k p1 .. pk`")
+        raise UserError(f"{chunk.path}: lines from {chunk.first} on cannot be read")
     is_wrong = fields[starts + 1] != lengths - 2
     if is_wrong.any():
         row = int(is_wrong.argmax())
-        piece.refuse(row, f"{lengths[row] - 2} predecessors stand in a line `id k p1 .. pk`, and k "
-                          f"is {fields[starts[row] + 1]}")
+        chunk.reject(row, f"a line `id k p1 .. pk` has {lengths[row] - 2} predecessors, but k is "
+                          f"{fields[starts[row] + 1]}")
     is_predecessor = np.ones(len(fields), dtype=bool)
     is_predecessor[starts] = is_predecessor[starts + 1] = False
     return fields[starts], lengths - 2, fields[is_predecessor]
 
 
-def _in_turn(piece: Piece, ids: np.ndarray, done: int) -> None:
-    """Raises UserError, with the line, if identifiers do not go on by one."""
+def _in_turn(chunk: Chunk, ids: np.ndarray, done: int) -> None:
+    """Raises UserError, with the line, if identifiers do not rise by one."""
     is_wrong = ids != np.arange(done, done + len(ids))
     if is_wrong.any():
-        piece.refuse(int(is_wrong.argmax()), "identifiers are not 0, 1, 2, ..")
+        chunk.reject(int(is_wrong.argmax()), "identifiers are not 0, 1, 2, ..")
 
 
 def read_precedence(path: str, blocks: Optional[int] = None) -> sparse.csr_matrix:
-    """A precedence file as a matrix (n, n), 1 at (b, p) where block b waits for block p.
+    """Reads a precedence file as a matrix (n, n), 1 at (b, p) if block p is a predecessor of block
+    b.
 
-    It takes 5 bytes an arc. Raises UserError if a line is no `id k p1 .. pk`, identifiers are not
-    0, 1, 2, .., there are not as many lines as blocks, and where a predecessor is none of them.
+    It uses 5 bytes per arc. Raises UserError if a line is not `id k p1 .. pk`, identifiers are not
+    0, 1, 2, .., the number of lines differs from the number of blocks, or a predecessor is not a
+    block.
     """
     counts, above, done = [], [], 0
-    for piece in pieces_of(path, True):
-        ids, count, predecessors = arcs_in(piece)
-        _in_turn(piece, ids, done)
+    for chunk in chunks_of(path, True):
+        ids, count, predecessors = arcs_in(chunk)
+        _in_turn(chunk, ids, done)
         done += len(ids)
         counts.append(count)
         if len(predecessors) and not 0 <= predecessors.min() <= predecessors.max() < 2**31:
-            raise UserError(f"{path}: a predecessor is no block")
+            raise UserError(f"{path}: a predecessor is not a block")
         above.append(predecessors.astype(np.int32))
     starts = (np.concatenate([[0], np.cumsum(np.concatenate(counts))]) if counts
               else np.zeros(1, int))
     n = len(starts) - 1
     indices = np.concatenate(above) if above else np.empty(0, np.int32)
     if blocks is not None and n != blocks:
-        raise UserError(f"{path}: it has {n} lines, and there are {blocks} blocks")
+        raise UserError(f"{path}: it has {n} lines, but there are {blocks} blocks")
     if len(indices) and indices.max() >= n:
-        raise UserError(f"{path}: a predecessor is no block: {indices.max()}")
+        raise UserError(f"{path}: a predecessor is not a block: {indices.max()}")
     starts = starts.astype(np.int32 if starts[-1] < 2**31 else np.int64)
     matrix = sparse.csr_matrix((n, n), dtype=np.int8)
     matrix.indptr, matrix.indices = starts, indices
@@ -108,26 +110,27 @@ def read_precedence(path: str, blocks: Optional[int] = None) -> sparse.csr_matri
 
 
 def count_predecessors(path: str) -> np.ndarray:
-    """How many predecessors each line of a precedence file names by its second field, (n,).
+    """Returns the number of predecessors in the second field of each line of a precedence file,
+    (n,).
 
-    What follows that field is skipped, so a file of hundreds of millions of arcs takes seconds.
+    The remainder of the line is skipped, so a file of hundreds of millions of arcs takes seconds.
     Raises UserError if identifiers are not 0, 1, 2, ..
     """
     counts, done = [], 0
-    for piece in pieces_of(path, True):
-        fields = integers_of(_heads(piece.text))
+    for chunk in chunks_of(path, True):
+        fields = integers_of(_heads(chunk.text))
         ids = fields[::2]
         if not len(ids) or len(fields) % 2:
-            raise UserError(f"{path}: no line of the precedence file of these blocks")
-        _in_turn(piece, ids, done)
+            raise UserError(f"{path}: not a line of the precedence file of these blocks")
+        _in_turn(chunk, ids, done)
         done += len(ids)
         counts.append(fields[1::2])
     return np.concatenate(counts) if counts else np.empty(0, dtype=np.int64)
 
 
-def _heads(piece: bytes) -> bytes:
+def _heads(chunk: bytes) -> bytes:
     """The first two fields of each line."""
-    text = np.frombuffer(piece, dtype=np.uint8)
+    text = np.frombuffer(chunk, dtype=np.uint8)
     ends = np.flatnonzero(text == 10)
     starts = np.concatenate([[0], ends[:-1] + 1])
     # An identifier and a count have at most 8 digits each, so that 18 bytes hold both.
@@ -141,10 +144,11 @@ def _heads(piece: bytes) -> bytes:
 
 
 def read_problem(path: str, kind: Optional[str] = None) -> Problem:
-    """A PCPSP or a CPIT file: values (n, D) in units of 100 cents, uses and limits in tonnes, the
-    rate for one period. The kind is that of the file's ending where none is given.
+    """Reads a PCPSP or a CPIT file: values (n, D) in units of 100 cents, uses and limits in tonnes,
+    the rate for one period. The file's ending gives the kind by default.
 
-    Raises UserError if it is none, a section is missing, or its parts do not fit.
+    Raises UserError for any other file, or if a section is missing or its parts contradict each
+    other.
     """
     kind = kind or os.path.splitext(path)[1][1:].upper()
     return read_model(path, kind if kind in ("PCPSP", "CPIT") else _kind_of(path))
@@ -162,10 +166,11 @@ def _kind_of(path: str) -> str:
 
 def read_instance(base: str, texts: Sequence[str] = TEXTS,
                   precedence: Optional[str] = None) -> Instance:
-    """The files BASE.blocks and so on, those of `texts`; BASE.upit and BASE.cpit may be lacking.
-    The precedence file is the one at `precedence` if it is given, as that of `pitc_thin`.
+    """Reads the files BASE.blocks and so on, those in `texts`; BASE.upit and BASE.cpit may be
+    missing. The precedence file is the one at `precedence` if it is given, such as one of
+    `pitc_thin`.
 
-    Raises UserError if a file is none, or they are of other numbers of blocks.
+    Raises UserError if a file is invalid, or if their numbers of blocks differ.
     """
     readers: dict[str, Callable[[str], Any]] = {
         "blocks": read_blocks, "prec": read_precedence, "upit": read_upit,
@@ -182,8 +187,8 @@ def read_instance(base: str, texts: Sequence[str] = TEXTS,
     counts = {name: sizes.get(name, lambda part: len(part.values))(part)
               for name, part in parts.items()}
     if len(set(counts.values())) > 1:
-        told = ", ".join(f"{name} {count}" for name, count in counts.items())
-        raise UserError(f"{base}: the files are not of as many blocks: {told}")
+        message = ", ".join(f"{name} {count}" for name, count in counts.items())
+        raise UserError(f"{base}: the files differ in their numbers of blocks: {message}")
     return Instance(**parts)
 
 
@@ -193,10 +198,10 @@ def read_instance(base: str, texts: Sequence[str] = TEXTS,
 def write_blocks(blocks: Blocks, path: str, remark: str = "") -> None:
     """A block file, which begins with the remark if there is one."""
     columns = [(np.arange(len(blocks)), 0), (blocks.x, 0), (blocks.y, 0), (blocks.z, 0),
-               (spelling.multiples_of(blocks.tonnes, [3])[0], 3),
-               (spelling.multiples_of(blocks.grade, [6])[0], 6),
+               (number_texts.multiples_of(blocks.tonnes, [3])[0], 3),
+               (number_texts.multiples_of(blocks.grade, [6])[0], 6),
                (blocks.zone, 0)]
-    _write(path, "blocks", spelling.lines_of(columns), remark)
+    _write(path, "blocks", number_texts.lines_of(columns), remark)
 
 
 def write_precedence(precedence: sparse.spmatrix, path: str, remark: str = "") -> None:
@@ -204,7 +209,7 @@ def write_precedence(precedence: sparse.spmatrix, path: str, remark: str = "") -
     remark if there is one."""
     precedence = arcs_of(precedence)
 
-    def pieces(rows: int = 1 << 16) -> Iterator[bytes]:
+    def chunks(rows: int = 1 << 16) -> Iterator[bytes]:
         starts = precedence.indptr
         for first in range(0, precedence.shape[0], rows):
             last = min(first + rows, precedence.shape[0])
@@ -217,8 +222,8 @@ def write_precedence(precedence: sparse.spmatrix, path: str, remark: str = "") -
             fields[is_predecessor] = precedence.indices[starts[first]:starts[last]]
             ends = np.full(len(fields), 32, dtype=np.uint8)
             ends[heads + counts + 1] = 10
-            yield from spelling.lines_of([(fields, 0)], ends)
-    _write(path, "prec", pieces(), remark)
+            yield from number_texts.lines_of([(fields, 0)], ends)
+    _write(path, "prec", chunks(), remark)
 
 
 def write_upit(upit: UltimatePit, path: str, end: bytes = b"", remark: str = "") -> None:
@@ -235,12 +240,12 @@ def write_problem(problem: Problem, path: str, end: bytes = b"", remark: str = "
     keys = {"NAME": problem.name, "TYPE": problem.kind, "NBLOCKS": len(problem.values),
             "NPERIODS": problem.periods, "NDESTINATIONS": problem.destinations,
             "NRESOURCE_SIDE_CONSTRAINTS": problem.resources, "NGENERAL_SIDE_CONSTRAINTS": 0,
-            "DISCOUNT_RATE": spelling.shortest(problem.rate)}
+            "DISCOUNT_RATE": number_texts.shortest(problem.rate)}
     if not is_pcpsp:
         del keys["NDESTINATIONS"], keys["NGENERAL_SIDE_CONSTRAINTS"]
     head = "".join(f"{key}: {value}\n" for key, value in keys.items()) + f"{OBJECTIVE}:\n"
     limits = "".join(f"{limit.resource} {limit.period} {limit.letter} "
-                     f"{' '.join(map(spelling.shortest, limit.ends))}\n"
+                     f"{' '.join(map(number_texts.shortest, limit.ends))}\n"
                      for limit in problem.limits)
     _write(path, "model",
            chain([head.encode()], _objective_lines(problem.values), [f"{COEFFICIENTS}:\n".encode()],
@@ -249,32 +254,32 @@ def write_problem(problem: Problem, path: str, end: bytes = b"", remark: str = "
 
 
 def _objective_lines(values: np.ndarray) -> Iterator[bytes]:
-    return spelling.lines_of_values([np.arange(len(values))], list(values.T), (2, 6))
+    return number_texts.lines_of_values([np.arange(len(values))], list(values.T), (2, 6))
 
 
 def _uses_lines(uses: Uses, with_destination: bool) -> Iterator[bytes]:
     whole = [uses.block, *([uses.destination] if with_destination else []), uses.resource]
-    return spelling.lines_of_values(whole, [uses.amount], (3, 6))
+    return number_texts.lines_of_values(whole, [uses.amount], (3, 6))
 
 
-def _write(path: str, kind: str, pieces: Iterable[bytes], remark: str) -> None:
+def _write(path: str, kind: str, chunks: Iterable[bytes], remark: str) -> None:
     with outputs.opened(path, kind) as file:
-        for piece in chain([f"% {remark}\n".encode()] if remark else [], pieces):
-            file.write(piece)
+        for chunk in chain([f"% {remark}\n".encode()] if remark else [], chunks):
+            file.write(chunk)
 
 
-def _judge(holds: bool, told: str) -> None:
+def _judge(holds: bool, message: str) -> None:
     if not holds:
-        raise UserError(f"{told}: pitc check would refuse it, and nothing was written")
+        raise UserError(f"{message}: pitc check would reject it, so nothing was written")
 
 
 def _judge_for_pitc(instance: Instance) -> None:
-    """Refuses an instance that `pitc check` would refuse."""
+    """Rejects an instance that `pitc check` would reject."""
     problems = [problem for problem in (instance.pcpsp, instance.cpit) if problem]
     counts = [len(part.values) for part in (*problems, instance.upit) if part]
     counts += [len(instance.blocks)] if instance.blocks else []
     counts += [instance.precedence.shape[0]] if instance.precedence is not None else []
-    _judge(len(set(counts)) < 2, f"the parts are not of as many blocks: {counts}")
+    _judge(len(set(counts)) < 2, f"the parts differ in their numbers of blocks: {counts}")
     _judge(all(0 < count <= MOST_BLOCKS for count in counts), f"there are {max(counts, default=0)} "
            "blocks")
     if instance.blocks:
@@ -285,7 +290,7 @@ def _judge_for_pitc(instance: Instance) -> None:
         _judge(not instance.precedence.diagonal().any(), "a block is its own predecessor")
     for name in [part.name for part in problems] + ([instance.upit.name] if instance.upit else []):
         _judge(NAME.fullmatch(name) is not None,
-               f"the name is {quoted(name)}, and has {WHAT_A_NAME_IS}")
+               f"the name is {quoted(name)}, but it must have {WHAT_A_NAME_IS}")
     for problem in problems:
         _judge_problem(problem)
 
@@ -299,14 +304,14 @@ def _look_at_ranges(problem: Problem, path: str) -> None:
             raise UserError(f"{path}: a coefficient's {what} is not below {end}")
     for limit in problem.limits:
         if not (0 <= limit.resource < problem.resources and 0 <= limit.period < problem.periods):
-            raise UserError(f"{path}: a limit's resource or period is not there: "
+            raise UserError(f"{path}: a limit's resource or period does not exist: "
                             f"{limit.resource} {limit.period}")
 
 
 def _judge_problem(problem: Problem) -> None:
-    """Refuses a PCPSP or a CPIT that `pitc check` would refuse."""
+    """Rejects a PCPSP or a CPIT that `pitc check` would reject."""
     _judge(0 <= problem.rate <= 1 and round(problem.rate, 6) == problem.rate,
-           f"the rate is {problem.rate!r}, and no number from 0 to 1 with 6 decimals")
+           f"the rate is {problem.rate!r}, not a number from 0 to 1 with 6 decimals")
     _judge(1 <= problem.periods <= MOST_PERIODS, f"there are {problem.periods} periods")
     _judge(0 <= problem.resources <= MOST_RESOURCES, f"there are {problem.resources} resources")
     _judge(1 <= problem.destinations <= (MOST_DESTINATIONS if problem.kind == "PCPSP" else 1),
@@ -323,20 +328,20 @@ def _judge_problem(problem: Problem) -> None:
         finite = np.isfinite([limit.least, limit.most])
         _judge(wanted == tuple(finite) and limit.least <= limit.most,
                f"a limit {limit.letter} from {limit.least:g} to {limit.most:g}")
-        spelling.nearest(np.array(limit.ends), 6)
+        number_texts.nearest(np.array(limit.ends), 6)
 
 
 def write_instance(instance: Instance, base: str, end: bytes = b"", remark: str = "",
                    as_published: bool = False) -> None:
-    """Writes the parts of an instance that are there to BASE.blocks and so on: the bytes of `pitc`.
-    They come together, or none does. Each file begins with the remark, one line, if there is one,
-    as a comment; `end` follows each model. In a command other files of an instance at BASE go, or
-    are refused (outputs.together).
+    """Writes the existing parts of an instance to BASE.blocks and so on: the bytes of `pitc`. They
+    appear together, or none does. Each file begins with the remark, one line, if there is one, as a
+    comment; `end` follows each model. In a command other files of an instance at BASE are removed,
+    or are an error (outputs.together).
 
-    Raises UserError for what `pitc check` refuses: a name, number or order that no file of `pitc`
-    has, parts of other numbers of blocks. `as_published` leaves ranges and orders to others. Raises
-    it also for a number that has more decimals than its file, and OSError where a file cannot be
-    written.
+    Raises UserError for what `pitc check` rejects: a name, number or order that no file of `pitc`
+    has, or parts that differ in their numbers of blocks. `as_published` leaves ranges and orders to
+    other programs. Also raises it for a number that has more decimals than its file, and OSError if
+    a file cannot be written.
     """
     if not as_published:
         _judge_for_pitc(instance)

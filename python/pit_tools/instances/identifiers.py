@@ -1,7 +1,8 @@
-"""Identifiers of blocks in an order in which predecessors come behind their blocks, and both ways
-between these and the identifiers that the blocks had.
+"""Identifiers of blocks in an order in which predecessors follow their blocks, and translation in
+both directions between these and the identifiers that the blocks had.
 
-`pitc` and what is quick here count on that order; files of other programs have it or another one.
+`pitc` and the fast functions here require that order; files of other programs have it or another
+one.
 """
 from __future__ import annotations
 
@@ -14,8 +15,8 @@ from scipy import sparse
 from pit_tools.errors import UserError, quoted
 from pit_tools.files import outputs
 from pit_tools.instances.arrays import Blocks, Instance, Problem, Uses, arcs_of
-from pit_tools.texts import spelling
-from pit_tools.texts.decimals import whole_of
+from pit_tools.texts import number_texts
+from pit_tools.texts.decimals import integer_of
 from pit_tools.texts.lines import block_lines, numbered_lines
 
 
@@ -41,25 +42,25 @@ def write_identifiers(identifiers: Identifiers, path: str) -> None:
     """Writes a line for each block: the block and its published identifier."""
     published = identifiers.published
     with outputs.opened(path, "identifiers") as file:
-        file.writelines(spelling.lines_of([(np.arange(len(published)), 0), (published, 0)]))
+        file.writelines(number_texts.lines_of([(np.arange(len(published)), 0), (published, 0)]))
 
 
 def read_identifiers(path: str) -> Identifiers:
     """The file that `write_identifiers` makes.
 
-    Raises UserError if it is none.
+    Raises UserError for any other file.
     """
     rows: list[list[Optional[int]]] = []
     for number, line in numbered_lines(path):
-        rows.append([whole_of(field) for field in line.split()])
+        rows.append([integer_of(field) for field in line.split()])
         if len(rows[-1]) != 2 or None in rows[-1]:
-            raise UserError(f"{path}: line {number}: no block with its published identifier: "
-                            f"{quoted(line.strip())}")
+            raise UserError(f"{path}: line {number}: it is not a block with its published "
+                            f"identifier: {quoted(line.strip())}")
     blocks, published = np.array(rows, dtype=np.int64).reshape(-1, 2).T
     ids = np.sort(published)
     if not np.array_equal(blocks, np.arange(len(rows))) \
             or not np.array_equal(ids, ids[:1] + np.arange(len(ids))):
-        raise UserError(f"{path}: blocks are not 0, 1, 2, .., or identifiers not consecutive")
+        raise UserError(f"{path}: blocks are not 0, 1, 2, .., or identifiers are not consecutive")
     return Identifiers(published)
 
 
@@ -72,13 +73,13 @@ def lines_renamed(path: str, identifiers: Identifiers, to_published: bool) -> It
     names = (identifiers.published if to_published else identifiers.blocks()).tolist()
     for number, block, fields in block_lines(path):
         if block is None or not 0 <= block - first < len(names):
-            raise UserError(f"{path}: line {number}: {quoted(fields[0])} is no block")
+            raise UserError(f"{path}: line {number}: {quoted(fields[0])} is not a block")
         yield " ".join([str(names[block - first]), *fields[1:]]) + "\n"
 
 
 def order_of(precedence: sparse.csr_matrix) -> Optional[np.ndarray]:
-    """The rows (n,) in an order in which each one's predecessors stand behind it; None if they
-    do as it is. Raises UserError if rows wait for one another in a ring."""
+    """Returns the rows (n,) in an order in which each block's predecessors follow it; None if they
+    already do. Raises UserError if rows precede each other in a cycle."""
     precedence = arcs_of(precedence)
     rows = np.repeat(np.arange(precedence.shape[0]), np.diff(precedence.indptr))
     if np.all(precedence.indices > rows):
@@ -95,7 +96,7 @@ def order_of(precedence: sparse.csr_matrix) -> Optional[np.ndarray]:
         waits[lower] -= counts
         level, taken = level + 1, lower[waits[lower] == 0]
     if (height < 0).any():
-        raise UserError(f"blocks wait for one another in a ring: {_ring(precedence, height < 0)}")
+        raise UserError(f"blocks wait for each other in a cycle: {_ring(precedence, height < 0)}")
     return np.lexsort((np.arange(len(height)), -height))
 
 

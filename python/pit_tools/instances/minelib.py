@@ -1,10 +1,10 @@
 """Files as the MineLib library publishes them, to an instance as `pitc` writes it, and back.
 
-The library's files are known here by hearsay alone: none was tried. What is taken to be theirs:
-comments from `%` on; a last line `EOF`; block files with fields of each mine's own behind the
-coordinates, words among them; precedence lines only for some blocks, and predecessors with smaller
-identifiers; header keys and sections in any order and case; exponents; a second number behind a
-limit `L` or `G`, and infinite ones; and not all of UPIT, CPIT and PCPSP.
+The library's files are known here by hearsay only: none was tried. Their assumed form: comments
+from `%` on; a last line `EOF`; block files with each mine's own fields after the coordinates, also
+words; precedence lines only for some blocks, and predecessors with smaller identifiers; header keys
+and sections in any order and case; exponents; a second number after a limit `L` or `G`, and
+infinite ones; and not all of UPIT, CPIT and PCPSP.
 """
 from __future__ import annotations
 
@@ -20,25 +20,25 @@ from pit_tools.instances.block_files import Columns, read_columns
 from pit_tools.instances.files import arcs_in, write_instance
 from pit_tools.instances.identifiers import Identifiers, order_of, reordered
 from pit_tools.instances.models import read_model, read_upit
-from pit_tools.texts.lines import Told, pieces_of, refuse_row
+from pit_tools.texts.lines import Told, chunks_of, reject_row
 
 
 def read_precedence(path: str, blocks: int, first: int, told: Told) -> sparse.csr_matrix:
-    """The precedences: `id k p1 .. pk` in any order; blocks without a line have none.
+    """Reads the precedences: `id k p1 .. pk` in any order; blocks without a line have none.
 
     Raises UserError, with the line, if a number of predecessors or an identifier is wrong.
     """
     rows, counts, above = [], [], []
     done = 0
-    for piece in pieces_of(path):
-        ids, count, predecessors = arcs_in(piece)
+    for chunk in chunks_of(path):
+        ids, count, predecessors = arcs_in(chunk)
         for what, column in (("the block", ids), ("a predecessor", predecessors)):
             is_wrong = (column < first) | (column >= first + blocks)
             if is_wrong.any():
                 at = int(is_wrong.argmax())
                 row = at if column is ids else \
                     int(np.searchsorted(np.cumsum(count), at, side="right"))
-                piece.refuse(row, f"{what} {column[at]} is not one of the {blocks} of the block "
+                chunk.reject(row, f"{what} {column[at]} is not one of the {blocks} of the block "
                                   "file")
         rows.append((ids - first).astype(np.int32))
         counts.append(count.astype(np.int32))
@@ -47,7 +47,8 @@ def read_precedence(path: str, blocks: int, first: int, told: Told) -> sparse.cs
     lines = [np.concatenate(part) if part else np.empty(0, np.int32)
              for part in (rows, counts, above)]
     if done < blocks:
-        told.tell(f"{blocks - done} blocks had no line in the precedence file, and wait for none")
+        told.tell(f"{blocks - done} blocks had no line in the precedence file, so they have no "
+                  "predecessors")
     return _matrix_of(path, blocks, *lines)
 
 
@@ -58,7 +59,7 @@ def _matrix_of(path: str, blocks: int, rows: np.ndarray, counts: np.ndarray,
     if order is not None:
         twice = np.flatnonzero(np.diff(rows[order]) == 0)
         if len(twice):
-            refuse_row(pieces_of(path), int(order[twice[0] + 1]), "the block has a line before")
+            reject_row(chunks_of(path), int(order[twice[0] + 1]), "the block has an earlier line")
         ends = np.cumsum(counts, dtype=np.int64)
         starts = np.repeat((ends - counts)[order], counts[order])
         lengths = counts[order].astype(np.int64)
@@ -77,7 +78,7 @@ def _matrix_of(path: str, blocks: int, rows: np.ndarray, counts: np.ndarray,
     is_wrong[1:] |= (matrix.indices[1:] == matrix.indices[:-1]) & (lower[1:] == lower[:-1])
     if is_wrong.any():
         at = int(np.flatnonzero(rows == lower[int(is_wrong.argmax())])[0])
-        refuse_row(pieces_of(path), at, "the block names a predecessor twice, or itself")
+        reject_row(chunks_of(path), at, "the block names a predecessor twice, or itself")
     return matrix
 
 
@@ -86,7 +87,7 @@ def _no_uses() -> Uses:
 
 
 def _cpit_of(pcpsp: Problem) -> Problem:
-    """Each block goes where it is worth most, to the first of such."""
+    """Sends each block where it is worth most, to the first of several such destinations."""
     best = pcpsp.values.argmax(axis=1)
     uses = pcpsp.uses
     taken = uses.destination == best[uses.block]
@@ -96,37 +97,37 @@ def _cpit_of(pcpsp: Problem) -> Problem:
 
 
 def _completed(mine: Instance, told: Told) -> Instance:
-    """The instance with the problems that are missing, made of those that are there."""
+    """Returns the instance with the missing problems made from the existing ones."""
     pcpsp, cpit, upit = mine.pcpsp, mine.cpit, mine.upit
     if cpit is None and pcpsp is not None:
         cpit = _cpit_of(pcpsp)
-        told.tell("the CPIT was made of the PCPSP: each block goes where it is worth most")
+        told.tell("the CPIT was made from the PCPSP: each block goes where it is worth most")
     if cpit is None and upit is not None:
         cpit = Problem("CPIT", upit.name, 1, 0, 0.0, upit.values[:, None], _no_uses())
-        told.tell("the CPIT was made of the UPIT: one period, no resource")
+        told.tell("the CPIT was made from the UPIT: one period, no resource")
     if cpit is None:
         raise UserError("give a UPIT, a CPIT or a PCPSP")
     if pcpsp is None:
         pcpsp = replace(cpit, kind="PCPSP")
-        told.tell("the PCPSP was made of the CPIT: one destination")
+        told.tell("the PCPSP was made from the CPIT: one destination")
     if upit is None:
         upit = UltimatePit(cpit.name, cpit.values[:, 0])
-        told.tell("the UPIT was made of the CPIT's values")
+        told.tell("the UPIT was made from the CPIT's values")
     return replace(mine, pcpsp=pcpsp, cpit=cpit, upit=upit)
 
 
 def read_published(files: dict[str, str], columns: Columns = Columns(), order: Optional[str] = None,
                    without_general: bool = False,
                    told: Optional[Told] = None) -> tuple[Instance, Identifiers]:
-    """An instance of published files, by the endings blocks, prec, upit, cpit and pcpsp, and the
-    identifiers that its blocks had; blocks, prec and one of the others must be there.
+    """Reads an instance from published files, by the endings blocks, prec, upit, cpit and pcpsp,
+    and the identifiers that its blocks had; blocks, prec and one of the others must exist.
 
-    Raises UserError if a file is none, or they are not of the same blocks.
+    Raises UserError if a file is invalid, or if their blocks differ.
     """
     told = told if told is not None else Told()
-    lacking = [ending for ending in ("blocks", "prec") if ending not in files]
-    if lacking:
-        raise UserError(f"give the file of {' and '.join(lacking)}")
+    absent = [ending for ending in ("blocks", "prec") if ending not in files]
+    if absent:
+        raise UserError(f"give the file of {' and '.join(absent)}")
     blocks, first = read_columns(files["blocks"], columns, told)
     precedence = read_precedence(files["prec"], len(blocks), first, told)
     upit = read_upit(files["upit"], first, without_general, told) if "upit" in files else None
@@ -135,36 +136,36 @@ def read_published(files: dict[str, str], columns: Columns = Columns(), order: O
     mine = _completed(Instance(blocks, precedence, upit, *problems), told)
     for part in (mine.upit, mine.cpit, mine.pcpsp):
         if part is not None and len(part.values) != len(blocks):
-            raise UserError(f"a model file has {len(part.values)} blocks, and the block file "
+            raise UserError(f"a model file has {len(part.values)} blocks, but the block file "
                             f"{len(blocks)}")
     return _in_order(mine, first, told)
 
 
 def _in_order(mine: Instance, first: int, told: Told) -> tuple[Instance, Identifiers]:
-    """The instance in an order in which predecessors come behind their blocks."""
+    """Returns the instance in an order in which predecessors follow their blocks."""
     _look_at_heights(mine, told)
     order = None if mine.precedence is None else order_of(mine.precedence)
     published = np.arange(first, first + len(mine.blocks or ()))
     if first:
-        told.tell(f"identifiers counted from {first}, and count from 0 now")
+        told.tell(f"identifiers counted from {first}, and now count from 0")
     if order is not None:
         mine, published = reordered(mine, order), published[order]
-        told.tell("a predecessor stood before its block: blocks have other identifiers now")
+        told.tell("a predecessor preceded its block: blocks now have other identifiers")
     return mine, Identifiers(published)
 
 
 def _look_at_heights(mine: Instance, told: Told) -> None:
-    """Tells where predecessors lie below their blocks."""
+    """Reports if predecessors are below their blocks."""
     if mine.blocks is None or mine.precedence is None or not mine.precedence.nnz:
         return
     heights = np.repeat(mine.blocks.z, np.diff(mine.precedence.indptr))
     if (mine.blocks.z[mine.precedence.indices] < heights).mean() > 0.5:
-        told.tell("most predecessors lie at a smaller z than their block: z counts downward there")
+        told.tell("most predecessors are at a smaller z than their block: z counts downward there")
 
 
 def _in_fields(uses: Uses, order: str) -> Uses:
-    """The uses with what stands first, second and third in the order of fields in its own places,
-    so that they are written in that order."""
+    """Returns the uses with the fields of the given order in the places of the first, second and
+    third, so that they are written in that order."""
     columns = {"b": uses.block, "d": uses.destination, "r": uses.resource}
     rank = np.lexsort([columns[letter] for letter in reversed(order)])
     first, second, third = (columns[letter][rank] for letter in order)
@@ -180,7 +181,7 @@ def _with_fields(problem: Optional[Problem], order: str) -> Optional[Problem]:
 
 
 def write_published(mine: Instance, base: str, order: str = "bdr", with_end: bool = True) -> None:
-    """Writes an instance as the library's files are remembered: `EOF` behind each model, and
+    """Writes an instance as the library's files are remembered: `EOF` after each model, and
     coefficients in an order of their fields, one of models.ORDERS.
 
     Raises UserError as `write_instance` does.

@@ -12,8 +12,8 @@ from pit_tools.texts.lines import LONGEST
 
 
 def write_sections(file: IO[bytes], base: str, place: str) -> None:
-    """Writes what `pitc` printed as the files of a base. Raises UserError, which names the place,
-    for what is cut short: its sections have other numbers of blocks, or other limits."""
+    """Writes the output of `pitc` as the files of a base. Raises UserError, which names the place,
+    if it is cut short: its sections differ in the number of blocks, or in limits."""
     found: list[_Section] = []
     with outputs.together(record=base), ExitStack() as files:
         for line in iter(partial(file.readline, LONGEST + 1), b""):
@@ -22,27 +22,27 @@ def write_sections(file: IO[bytes], base: str, place: str) -> None:
             if line.startswith(b"== "):
                 name = line[3:].strip().decode("ascii", "replace")
                 if name not in TEXTS or name in [section.name for section in found]:
-                    raise UserError(f"{quoted(line.decode('utf-8', 'replace').strip())} is no "
-                                    "section of an instance, or stands twice")
+                    raise UserError(f"{quoted(line.decode('utf-8', 'replace').strip())} is not a "
+                                    "section of an instance, or appears twice")
                 found.append(_Section(name))
                 part = files.enter_context(outputs.opened(f"{base}.{name}",
                                                           kinds.ENDINGS["." + name]))
             elif not found:
-                raise UserError(f"{place} does not begin with a section, as `== blocks`: did "
-                                "pitc refuse its input?")
+                raise UserError(f"{place} does not begin with a section, as `== blocks`: did pitc "
+                                "reject its input?")
             else:
                 found[-1].take(line)
                 part.write(line)
         names = [section.name for section in found]
         if names != list(TEXTS):
-            raise UserError(f"{place} has the sections {', '.join(names) or 'none'}, and "
-                            f"not {', '.join(TEXTS)}")
-        _judge_whole(found, place)
+            raise UserError(f"{place} has the sections {', '.join(names) or 'none'}, not "
+                            f"{', '.join(TEXTS)}")
+        _judge_blocks(found, place)
 
 
 class _Section:
-    """What of a section tells whether it is whole: how many lines it has, of a model those of
-    its objective; and its limits, None if their heading is missing."""
+    """What shows whether a section is complete: its number of lines, of a model those of its
+    objective; and its limits, None if their heading is missing."""
 
     def __init__(self, name: str):
         self.name, self.lines, self.is_counted = name, 0, name in ("blocks", "prec")
@@ -50,7 +50,7 @@ class _Section:
         self.last = b"\n"
 
     def take(self, line: bytes) -> None:
-        """Takes a line."""
+        """Reads a line."""
         self.last = line
         if line.endswith(b":\n"):
             self.is_counted = line == b"OBJECTIVE_FUNCTION:\n"
@@ -61,13 +61,13 @@ class _Section:
             self.lines += self.is_counted
 
 
-def _judge_whole(found: Sequence[_Section], place: str) -> None:
-    """Stops where the sections are not those of one instance: no header counts coefficients and
-    limits, but the limits of the CPIT, which come last, are those of the PCPSP."""
+def _judge_blocks(found: Sequence[_Section], place: str) -> None:
+    """Stops if the sections do not belong to one instance: no header counts coefficients and
+    limits, but the limits of the CPIT, which come last, equal those of the PCPSP."""
     counts = {section.name: section.lines for section in found}
     limits = [section.limits for section in found if section.name in ("pcpsp", "cpit")]
     if (len(set(counts.values())) > 1 or None in limits or limits[0] != limits[1]
             or not found[-1].last.endswith(b"\n")):
-        told = ", ".join(f"{name} {count}" for name, count in counts.items())
+        message = ", ".join(f"{name} {count}" for name, count in counts.items())
         raise UserError(f"{place} was cut short, or is of several runs: its sections have "
-                        f"blocks or limits that differ ({told} blocks)")
+                        f"blocks or limits that differ ({message} blocks)")

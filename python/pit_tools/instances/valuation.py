@@ -1,9 +1,8 @@
-"""What blocks are worth at a plan's destinations, to the cent, and the instance that a plan
-defines.
+"""The worth of blocks at a plan's destinations, to the cent, and the instance that a plan defines.
 
-With T kilograms, g millionths of g/t, r per mille recovered, P cents a kilogram of metal and C
-cents a tonne, a block is worth floor((T g r P - T C 10^12) / 10^15) cents at a mill or a leach, and
-floor(-T C / 1000) at a dump (docs/formats.md).
+With T kilograms, g millionths of g/t, r per mille recovered, P cents per kilogram of metal and C
+cents per tonne, a block is worth floor((T g r P - T C 10^12) / 10^15) cents at a mill or a leach,
+and floor(-T C / 1000) at a dump (docs/formats.md).
 """
 from __future__ import annotations
 
@@ -27,7 +26,7 @@ def recoveries(destination: Destination, grade: np.ndarray) -> np.ndarray:
 
 def worth_in_cents(destination: Destination, kilograms: np.ndarray,
                    grade: np.ndarray) -> np.ndarray:
-    """The worth of blocks at one destination in whole cents, int64, exact.
+    """Returns the worth of blocks at one destination in integer cents, int64, exact.
 
     `kilograms` and `grade`, in millionths of g/t, are int64.
     """
@@ -39,7 +38,7 @@ def worth_in_cents(destination: Destination, kilograms: np.ndarray,
     paid = np.flatnonzero((grade > 0) & (per_metal > 0) & (kilograms > 0))
     revenue = kilograms[paid].astype(float) * grade[paid] * per_metal[paid] / 1e15
     cost = costs[paid] / 1e3
-    # Six operations, each right to 2^-53 of what it answers.
+    # Six operations, each with a relative error of at most 2^-53.
     error = (revenue + cost) * 2.0**-50
     low, high = np.floor(revenue - cost - error), np.floor(revenue - cost + error)
     worth[paid] = low.astype(np.int64)
@@ -56,15 +55,16 @@ def _exact_worth(kilograms: np.ndarray, grade: np.ndarray, per_metal: np.ndarray
 
 
 def values_of(plan: Plan, blocks: Blocks) -> np.ndarray:
-    """What each block is worth at each destination in whole cents, (n, destinations), exact."""
+    """Returns the worth of each block at each destination in integer cents, (n, destinations),
+    exact."""
     kilograms = np.rint(blocks.tonnes * 1000).astype(np.int64)
     grade = np.rint(blocks.grade * 1e6).astype(np.int64)
     return np.stack([worth_in_cents(one, kilograms, grade) for one in plan.destinations], axis=1)
 
 
 def blocks_of(grid: Grid, rows: pd.DataFrame) -> Blocks:
-    """The blocks of zone files' rows, as zone_files.read_zone_files answers them, in order of
-    identifier."""
+    """Returns the blocks of zone files' rows, as zone_files.read_zone_files returns them, in order
+    of identifier."""
     places = []
     for axis, origin, size in zip("xyz", grid.origin, grid.size):
         places.append((rows[axis].to_numpy() - int(origin * 1000)) // int(size * 1000))
@@ -94,11 +94,11 @@ def _uses(pairs: Sequence[tuple[int, int]], tonnes: np.ndarray) -> Uses:
 
 
 def instance_of(plan: Plan, blocks: Blocks) -> Instance:
-    """The instance that a plan and its blocks define, as `pitc` writes it: values in units of 100
-    cents. It lists all arcs, and is for instances that tools make and solve themselves; those that
-    are published come from `pitc`.
+    """Returns the instance that a plan and its blocks define, as `pitc` writes it: values in units
+    of 100 cents. It lists all arcs, and is for instances that tools make and solve themselves;
+    published instances come from `pitc`.
 
-    Raises UserError if there is no block, or blocks lie too far apart.
+    Raises UserError if there is no block, or blocks are too far apart.
     """
     values = values_of(plan, blocks)
     best = values.argmax(axis=1)

@@ -12,11 +12,11 @@ from pit_tools.instances.arrays import Instance, Problem, UltimatePit, Uses, pre
 
 
 def by_zone(parts: Sequence[tuple[Sequence[int], Instance]]) -> Instance:
-    """Instances of the same blocks, each with the zones that it is for, as one. Names, limits and
-    precedences are those of the first.
+    """Joins instances of the same blocks, each with its zones, into one. Names, limits and
+    precedences come from the first.
 
-    Raises UserError if blocks, periods, destinations, resources or rates differ, or a zone is
-    in none or in two."""
+    Raises UserError if blocks, periods, destinations, resources or rates differ, or a zone belongs
+    to none or to two."""
     first = parts[0][1]
     blocks = present(first.blocks, "block file")
     zone = blocks.zone
@@ -24,16 +24,16 @@ def by_zone(parts: Sequence[tuple[Sequence[int], Instance]]) -> Instance:
     for number, (zones, instance) in enumerate(parts):
         others = present(instance.blocks, "block file")
         if not all(map(np.array_equal, vars(others).values(), vars(blocks).values())):
-            raise UserError("the instances are not of the same blocks")
+            raise UserError("the instances have different blocks")
         for one in zones:
             if not 0 <= one < len(part_of):
                 raise UserError(f"no block has the zone {one}")
             if part_of[one] >= 0:
                 raise UserError(f"the zone {one} is in two of the instances")
             part_of[one] = number
-    lacking = sorted(set(zone[part_of[zone] < 0].tolist()))
-    if lacking:
-        raise UserError(f"no instance is for the zone {', '.join(map(str, lacking))}")
+    absent = sorted(set(zone[part_of[zone] < 0].tolist()))
+    if absent:
+        raise UserError(f"no instance is for the zone {', '.join(map(str, absent))}")
     owner = part_of[zone]
     return replace(first, upit=_upit([instance.upit for _, instance in parts], owner),
                    pcpsp=_problem([instance.pcpsp for _, instance in parts], owner),
@@ -59,7 +59,7 @@ def _problem(problems: Sequence[Optional[Problem]], owner: np.ndarray) -> Option
     for other in found[1:]:
         for what in ("periods", "destinations", "resources", "rate"):
             if getattr(other, what) != getattr(first, what):
-                raise UserError(f"the plans have other {what}: {getattr(first, what)} and "
+                raise UserError(f"the plans differ in {what}: {getattr(first, what)} and "
                                 f"{getattr(other, what)}")
     columns = []
     for name in ("block", "destination", "resource", "amount"):

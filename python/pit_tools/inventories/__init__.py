@@ -1,1 +1,1 @@
-"""What zones hold, beside a package's resource report and a plan's worths."""
+"""The contents of zones, compared with a package's resource report and a plan's worths."""

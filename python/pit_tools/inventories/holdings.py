@@ -1,5 +1,5 @@
-"""What zones hold: blocks, tonnes, metal, volume and where they end, as a package's resource report
-has them."""
+"""The contents of zones: blocks, tonnes, metal, volume and extents, as in a package's resource
+report."""
 from __future__ import annotations
 
 import math
@@ -16,7 +16,7 @@ from pit_tools.texts.units import CUBIC_FOOT, Measures
 
 
 class Holding(NamedTuple):
-    """What some rock holds: tonnes, g of metal (of a net smelter return, money), m3."""
+    """The contents of some rock: tonnes, g of metal (of a net smelter return, money), m3."""
 
     blocks: int
     tonnes: float
@@ -35,10 +35,10 @@ class Holding(NamedTuple):
 
 @dataclass(frozen=True)
 class Holdings:
-    """The rock of a model: arrays of n rows. `zone` are numbers of `names`; `tonnes` are t, `grade`
-    g/t, `volume` m3 (one number for all, or n); `index` places of the grid, one array an axis.
-    `is_graded` is false where rock has no grade and counts as 0. `is_counted` is true of one part
-    of each block that was cut into several; without it each row is a block."""
+    """The rock of a model: arrays of n rows. `zone` are indices of `names`; `tonnes` are t, `grade`
+    g/t, `volume` m3 (one number for all, or n); `index` has positions in the grid, one array per
+    axis. `is_graded` is false if rock has no grade and counts as 0. `is_counted` is true of one
+    part of each block that was cut into several; without it each row is a block."""
 
     names: Sequence[str]
     zone: np.ndarray
@@ -49,7 +49,7 @@ class Holdings:
     grid: Grid
     frame: Frame = Frame()
     is_graded: Optional[np.ndarray] = None
-    aside: Mapping[str, int] = field(default_factory=dict)  #: rows left out, by zone
+    aside: Mapping[str, int] = field(default_factory=dict)  #: rows omitted, by zone
     is_counted: Optional[np.ndarray] = None
 
     @cached_property
@@ -59,7 +59,7 @@ class Holdings:
         return order, np.searchsorted(self.zone[order], np.arange(len(self.names) + 1))
 
     def rows_of(self, zone: str) -> np.ndarray:
-        """The rows of a zone, or of all where it is empty."""
+        """Returns the rows of a zone, or all for an empty one."""
         order, first = self._order
         if not zone:
             return order
@@ -68,8 +68,8 @@ class Holdings:
 
     def of(self, zone: str = "", cut_off: Optional[float] = None,
            is_graded: bool = False) -> Holding:
-        """What a zone holds, or all, from a grade in g/t on, and of rock with a grade alone where
-        that is asked for."""
+        """Returns the contents of a zone, or of all, from a grade in g/t on, and only of rock with
+        a grade if that is requested."""
         rows = self.rows_of(zone)
         if cut_off is not None:
             # A grade has six decimals, and a cut-off of a unit is a product.
@@ -93,7 +93,7 @@ class Holdings:
         return self.count(rows[~self.is_graded[rows]])
 
     def extents(self, zone: str = "") -> Optional[list[tuple[float, float]]]:
-        """The smallest and the largest coordinate of centroids along each axis, in the
+        """Returns the smallest and the largest coordinate of centroids along each axis, in the
         export's own coordinates; None if there is no row."""
         rows = self.rows_of(zone)
         if len(rows) == 0:
@@ -117,8 +117,8 @@ class Holdings:
     # The table that a planner compares
 
     def rows(self) -> list[dict[str, Any]]:
-        """The table as records: tonnes, grade in g/t (of a net smelter return, money a tonne),
-        metal in g and volume in m3 of each zone, and of all, whose zone is None."""
+        """Returns the table as records: tonnes, grade in g/t (of a net smelter return, money per
+        tonne), metal in g and volume in m3 of each zone, and of all, whose zone is None."""
         return [{"zone": zone or None, **self.of(zone)._asdict(), "grade": self.of(zone).grade,
                  "left_out": self.left_out(zone), "at_grade_0": self.ungraded(zone),
                  "extents": self.extents(zone)} for zone in [*self.names, ""]]
@@ -128,13 +128,13 @@ class Holdings:
         return self.aside.get(zone, 0) if zone else sum(self.aside.values())
 
     def table(self, measures: Measures) -> list[str]:
-        """A line for each zone and one of all: what it holds, the rows that were omitted, and
-        those that are kept at grade 0; and where each zone lies."""
+        """Yields a line for each zone and one for all: the contents, the rows that were omitted,
+        and those that are kept at grade 0; and the extents of each zone."""
         width = max(len("zone"), *map(len, self.names))
         metal, factor = metal_unit(measures)
         unit = measures.grade_unit
         lines = [f"{'zone':{width}} {'blocks':>10} {'tonnes':>17} {f'mean {unit}':>11} "
-                 f"{f'metal, {metal}':>15} {'volume, m3':>15} {'t/m3':>7} {'left out':>9} "
+                 f"{f'metal, {metal}':>15} {'volume, m3':>15} {'t/m3':>7} {'omitted':>9} "
                  f"{'at grade 0':>11}"]
         for zone in [*self.names, ""]:
             held = self.of(zone)
@@ -159,8 +159,8 @@ class Holdings:
 
 
 def metal_unit(measures: Measures) -> tuple[str, float]:
-    """In what metal is reported, and how many of the kept unit it is: kilograms of metal in
-    g/t, tonnes of metal in percent, and of a return money."""
+    """Returns the unit in which metal is reported, and how many of the stored unit it is: kilograms
+    of metal in g/t, tonnes of metal in percent, and of a return money."""
     if measures.grade_unit == "g/t":
         return "kg", 1e3
     if measures.grade_unit == "%":
@@ -170,7 +170,8 @@ def metal_unit(measures: Measures) -> tuple[str, float]:
 
 def holdings_of(blocks: Blocks, names: Sequence[str], grid: Grid,
                 frame: Frame = Frame()) -> Holdings:
-    """What the zones of an instance or of zone files hold. Zones of one name are one zone."""
+    """Returns the contents of the zones of an instance or of zone files. Zones of one name are one
+    zone."""
     unique = list(dict.fromkeys(names))
     numbers = np.array([unique.index(name) for name in names], dtype=np.int32)
     foot = float(CUBIC_FOOT) if frame.unit == "ft" and frame.lengths[0] == 1 else 1.0

@@ -1,4 +1,4 @@
-"""Lays what was imported beside a package's resource report, zone by zone and in total."""
+"""Compares an import with a package's resource report, by zone and in total."""
 from __future__ import annotations
 
 from dataclasses import dataclass, field, replace
@@ -13,14 +13,13 @@ from pit_tools.inventories.statements import (FIGURES, Known, Stated, Statement,
                                               take_expected)
 from pit_tools.texts.units import Measures
 
-#: How far figures may differ, in percent, if nothing else is said: reports round to three digits
-#: or four.
+#: The default tolerance of figures, in percent: reports round to three digits or four.
 TOLERANCE = 1.0
 
 #: How far a quotient may be from a factor that is its cause.
 NEAR = 0.005
 
-#: What may be the cause of a quotient of imported and reported figures.
+#: Possible causes of a quotient of imported and reported figures.
 CAUSES: dict[str, list[tuple[float, str]]] = {
     "tonnes": [(1000, "kilograms read as tonnes, or a report in kilotonnes"),
                (1 / 1000, "kilotonnes read as tonnes: --tonnes 'COLUMN kt'"),
@@ -28,16 +27,16 @@ CAUSES: dict[str, list[tuple[float, str]]] = {
                (0.90718474, "tonnes read as short tons, or a report in short tons"),
                (35.314667, "lengths in feet read as metres: --in-feet, or the unit ft"),
                (1 / 35.314667, "lengths in metres read as feet"),
-               (2, "rows that are there twice"),
+               (2, "rows that appear twice"),
                (1 / 2, "half of the rows, or blocks of half the size")],
-    "grade": [(1000, "parts a billion read as g/t: --grade 'COLUMN ppb'"),
-              (1 / 1000, "kilograms a tonne read as g/t: --grade 'COLUMN kg/t'"),
+    "grade": [(1000, "parts per billion read as g/t: --grade 'COLUMN ppb'"),
+              (1 / 1000, "kilograms per tonne read as g/t: --grade 'COLUMN kg/t'"),
               (10_000, "g/t read as percent, or a report in percent"),
               (1 / 10_000, "percent read as g/t: --grade 'COLUMN %'"),
-              (31.1034768, "g/t read as ounces a tonne"),
-              (1 / 31.1034768, "ounces a tonne read as g/t: --grade 'COLUMN oz/tonne'"),
-              (34.285718, "g/t read as ounces a short ton"),
-              (1 / 34.285718, "ounces a short ton read as g/t: --grade 'COLUMN oz/st'"),
+              (31.1034768, "g/t read as ounces per tonne"),
+              (1 / 31.1034768, "ounces per tonne read as g/t: --grade 'COLUMN oz/tonne'"),
+              (34.285718, "g/t read as ounces per short ton"),
+              (1 / 34.285718, "ounces per short ton read as g/t: --grade 'COLUMN oz/st'"),
               (2, "a grade that is counted twice"), (1 / 2, "half of the grade")],
     "metal": [(factor, f"a report whose metal is in {unit}") for factor, unit in (
         (1000, "a unit 1,000 times as large"), (1 / 1000, "a unit of a thousandth"),
@@ -45,15 +44,15 @@ CAUSES: dict[str, list[tuple[float, str]]] = {
         (0.45359237, "kilograms, and not in pounds"),
         (1 / 0.45359237, "pounds, and not in kilograms"))],
     "volume": [(35.314667, "cubic feet read as cubic metres"),
-               (1 / 35.314667, "a report in cubic feet"), (2, "rows that are there twice"),
+               (1 / 35.314667, "a report in cubic feet"), (2, "rows that appear twice"),
                (1 / 2, "half of the rows, or blocks of half the size"),
                (8, "blocks of twice the size"), (1 / 8, "blocks of half the size")],
-    "blocks": [(2, "rows that are there twice"), (1 / 2, "half of the rows")]}
+    "blocks": [(2, "rows that appear twice"), (1 / 2, "half of the rows")]}
 
 
 class Difference(NamedTuple):
-    """A figure of a row of the report beside the same of the model; `percent` is how much more the
-    model has."""
+    """A figure of a row of the report, compared with the model's; `percent` is the model's
+    excess."""
 
     row: Stated
     figure: str
@@ -77,16 +76,16 @@ class Difference(NamedTuple):
 
 @dataclass(frozen=True)
 class Circumstances:
-    """What `import` knows of an export that a report may count otherwise: of each column of
+    """What `import` knows of an export that a report may count differently: for each column of
     grades how many rows of a zone have none, and how many rows a filter omitted."""
 
-    lacking: Mapping[str, Mapping[str, int]] = field(default_factory=dict)
+    absent: Mapping[str, Mapping[str, int]] = field(default_factory=dict)
     filtered: int = 0
 
 
 @dataclass
 class Reconciliation:
-    """A report beside a model. `notes` say what was taken, and what was not compared."""
+    """A report compared with a model. `notes` report the units used, and what was not compared."""
 
     rows: list[Stated]
     held: Holdings
@@ -147,25 +146,25 @@ class Reconciliation:
         raise UserError(
             f"{first.row.place}: {first.row.zone or 'the total'}{cut} has {first.figure} of "
             f"{self.shown(first.figure, first.stated)} {unit}".rstrip()
-            + f", and the model {self.shown(first.figure, first.found)}, {first.percent}"
+            + f", but the model {self.shown(first.figure, first.found)}, {first.percent}"
             + (f": {cause}?" if cause else "")
             + (f" {', '.join(more)} differ{'' if len(more) > 1 else 's'} too" if more else "")
             + f" (--tolerance {self.tolerance:g} %)")
 
     def cause(self, one: Difference) -> str:
-        """What is likely behind a difference, or an empty text."""
+        """Returns the likely cause of a difference, or an empty text."""
         return next(filter(None, self._causes(one)), "")
 
     def _causes(self, one: Difference) -> Iterator[str]:
         yield self._exchanged(one)
-        yield _factor_told(one)
+        yield _factor_text(one)
         if one.figure == "grade" or (one.figure == "metal" and one.row.zone):
             yield self._second_metal(one.row.zone)
         if one.figure in ("tonnes", "blocks", "volume", "metal") and one.ratio < 1:
-            yield self._left_out(one)
+            yield self._omitted(one)
 
     def _exchanged(self, one: Difference) -> str:
-        """Another zone that holds what the report says of this one."""
+        """Returns another zone whose contents equal the report's of this one."""
         if not one.row.zone:
             return ""
         for other in self.held.names:
@@ -180,27 +179,27 @@ class Reconciliation:
     def _second_metal(self, zone: str) -> str:
         """Columns of a grade of several that are missing in rows of the zone."""
         counts = {column: (rows.get(zone, 0) if zone else sum(rows.values()))
-                  for column, rows in self.circumstances.lacking.items()}
-        told = [f"{column} is missing in {count:,} rows" for column, count in counts.items()
-                if count]
-        return f"a second metal: {' and '.join(told)}" if told and len(counts) > 1 else ""
+                  for column, rows in self.circumstances.absent.items()}
+        message = [f"{column} is missing in {count:,} rows" for column, count in counts.items()
+                   if count]
+        return f"a second metal: {' and '.join(message)}" if message and len(counts) > 1 else ""
 
-    def _left_out(self, one: Difference) -> str:
-        """Rows that were omitted and would have about what is missing."""
+    def _omitted(self, one: Difference) -> str:
+        """Returns rows that were omitted and would add about what is missing."""
         zone, held = one.row.zone, self.held.of(one.row.zone)
         aside = self.held.aside
         rows = aside.get(zone, 0) if zone else sum(aside.values())
         each = held.figure(one.figure) / held.blocks if held.blocks else 0.0
-        told = []
+        message = []
         if rows and (not each or 0.5 <= (one.stated - one.found) / each / rows <= 2):
-            told.append(f"{rows:,} rows of {zone or 'all zones'} are left out, since they have no "
-                        "tonnes")
+            message.append(f"{rows:,} rows of {zone or 'all zones'} are omitted, since they have "
+                           "no tonnes")
         if self.circumstances.filtered:
-            told.append(f"{self.circumstances.filtered:,} rows are left out by --where")
-        return ", and ".join(told)
+            message.append(f"{self.circumstances.filtered:,} rows are omitted by --where")
+        return ", and ".join(message)
 
 
-def _factor_told(one: Difference) -> str:
+def _factor_text(one: Difference) -> str:
     for factor, cause in CAUSES.get(one.figure, ()):
         if abs(one.ratio / factor - 1) <= NEAR:
             return f"that is {figure(one.ratio)} times the report: {cause}"
@@ -208,13 +207,14 @@ def _factor_told(one: Difference) -> str:
 
 
 def _is_within(stated: Value, found: float, tolerance: float) -> bool:
-    """Whether a figure is right within the tolerance in percent and the rounding of the report."""
+    """Returns whether a figure is right within the tolerance in percent and the rounding of the
+    report."""
     return abs(found - stated.value) <= tolerance / 100 * abs(stated.value) + stated.slack
 
 
 def compared(rows: Sequence[Stated], held: Holdings, tolerance: float, measures: Measures,
              circumstances: Circumstances = Circumstances()) -> Reconciliation:
-    """The rows of a report beside what zones hold."""
+    """Compares the rows of a report with the contents of zones."""
     found = Reconciliation(list(rows), held, [], tolerance, measures, [], circumstances)
     listed = {row.zone for row in rows}
     for row in rows:
@@ -233,8 +233,8 @@ def compared(rows: Sequence[Stated], held: Holdings, tolerance: float, measures:
 
 def _holding_for(row: Stated, held: Holdings, listed: set[str],
                  tolerance: float) -> tuple[Holding, str]:
-    """What is laid beside a row: the zone's rock, or that with a grade alone where the report
-    counts no other, or, of a total, that of the zones of the report."""
+    """Returns what a row is compared with: the zone's rock, or only its rock with a grade if the
+    report counts no other, or, for a total, that of the report's zones."""
     whole = held.of(row.zone, row.cut_off)
 
     def fits(holding: Holding) -> bool:
@@ -257,7 +257,7 @@ def _holding_for(row: Stated, held: Holdings, listed: set[str],
 
 
 def _of_extents(row: Stated, held: Holdings) -> Iterator[Difference]:
-    """The ends of a zone: those of the report are of centroids or of blocks."""
+    """Compares the ends of a zone: the report's may be of centroids or of blocks."""
     ends = held.extents(row.zone)
     if ends is None:
         return
@@ -266,14 +266,13 @@ def _of_extents(row: Stated, held: Holdings) -> Iterator[Difference]:
             if name in row.figures:
                 stated, slack = row.figures[name]
                 beyond = way * (stated - centroid)
-                room = slack + half / 5
-                yield Difference(row, name, stated, centroid, -room <= beyond <= half + room)
+                margin = slack + half / 5
+                yield Difference(row, name, stated, centroid, -margin <= beyond <= half + margin)
 
 
 @dataclass(frozen=True)
 class Wanted:
-    """What is to be compared: paths of reports, words of `--expect`, and the tolerance in
-    percent."""
+    """What to compare: paths of reports, texts of `--expect`, and the tolerance in percent."""
 
     reports: Sequence[str] = ()
     expected: Sequence[str] = ()
@@ -282,10 +281,10 @@ class Wanted:
 
 @dataclass(frozen=True)
 class Reconciled:
-    """What BASE.json and the note of a plan keep: the rows of the report, the tolerance, what the
-    zones of the import hold as they were written (blocks, t, g), the zones that were split, each
-    with that of which it is a part, and whether rows of the export, which a report counts, were
-    summed up or cut."""
+    """The part that BASE.json and a plan's sidecar file store: the rows of the report, the
+    tolerance, the contents of the import's zones as they were written (blocks, t, g), the zones
+    that were split, each with the one of which it is a part, and whether rows of the export, which
+    a report counts, were summed up or cut."""
 
     tolerance: float = TOLERANCE
     rows: list[Stated] = field(default_factory=list)
@@ -295,8 +294,8 @@ class Reconciled:
 
     @classmethod
     def of_record(cls, record: Optional[dict[str, Any]]) -> Reconciled:
-        """As a file has it. It raises KeyError, TypeError, ValueError or AttributeError for what is
-        none."""
+        """Returns it from a file's values. It raises KeyError, TypeError, ValueError or
+        AttributeError for anything else."""
         if not record:
             return cls()
         written = {str(zone): (int(blocks), float(tonnes), float(metal))
@@ -314,26 +313,26 @@ class Reconciled:
                 "part_of": self.part_of, "is_merged": self.is_merged}
 
     def names(self, zones: Sequence[str]) -> list[str]:
-        """The zones, those that were split by that of which they are parts."""
+        """Returns the zones, split zones under the name of which they are parts."""
         return [self.part_of.get(zone, zone) for zone in zones]
 
     def judge(self, held: Holdings, measures: Measures, whose: str) -> None:
-        """Raises UserError if zones do not hold what was reconciled: files in another order,
-        of another import, or changed since."""
+        """Raises UserError if zones differ from what was reconciled: files in another order, from
+        another import, or changed since."""
         rows = [Stated(zone, whose, {"tonnes": Value(tonnes, 0.001),
                                      "grade": Value(metal / tonnes if tonnes else 0.0, 1e-6),
                                      "blocks": Value(blocks, 0)})
                 for zone, (blocks, tonnes, metal) in self.written.items()]
         unknown = sorted(set(held.names) ^ set(self.written))
         if unknown:
-            raise UserError(f"{whose}: the zones are not those that were reconciled: "
+            raise UserError(f"{whose}: the zones differ from those that were reconciled: "
                             f"{', '.join(unknown)}")
         compared(rows, held, self.tolerance, measures).judge()
 
     def lines(self, held: Holdings, measures: Measures) -> list[str]:
-        """The report beside an instance. What `import` found within the tolerance may be beyond it
-        here: parents take the zone with most tonnes, and rock without a grade has one of 0. Blocks
-        of a report are not those of an instance whose rows were summed up or cut."""
+        """Compares the report with an instance. What `import` found within the tolerance may be
+        beyond it here: parents have the zone with most tonnes, and rock without a grade has grade
+        0. Blocks of a report differ from those of an instance whose rows were summed up or cut."""
         rows = self.rows
         if self.is_merged:
             rows = [replace(row, figures={name: value for name, value in row.figures.items()
@@ -346,7 +345,7 @@ class Reconciled:
 
 
 def statement_of(reports: Sequence[str], expected: Sequence[str], known: Known) -> Statement:
-    """What reports and words say. It raises UserError for what is not understood, OSError where a
+    """Reads reports and texts. It raises UserError for what it does not understand, OSError if a
     report cannot be read."""
     statement = Statement()
     for path in reports:

@@ -1,9 +1,9 @@
-"""What of the rock of a model is mostly wrong, and would make another mine: tonnes, heights, gaps
-and grades.
+"""Common mistakes of a model's rock, which would make another mine: tonnes, heights, gaps and
+grades.
 
-`import` asks it of what it has read, and `survey` of an instance that no `import` has judged. Each
-line is one that a wrong model has alone (tests/test_mistakes.py), and that no right model has; what
-a resource report shows better is left to that."""
+`import` checks what it has read, and `survey` an instance that no `import` has judged. Only wrong
+models have such a line (tests/test_mistakes.py), and no right model has one; what a resource report
+shows better is not checked here."""
 from __future__ import annotations
 
 from dataclasses import dataclass
@@ -21,22 +21,22 @@ LIGHT, HEAVY = 1.2, 5.0
 #: No block of rock is heavier; a mark as 999 may be.
 HEAVIEST = 10.0
 
-#: Voids of old workings rarely take more of the rock than this.
+#: Voids of old workings rarely exceed this share of the rock.
 VOIDS = 0.02
 
-#: Grades of one metal, of ore and of barren rock, do not differ a hundredfold between zones where
-#: the richer has more than 20 g/t or 20 % in the mean: that is a grade in another unit.
+#: Grades of one metal, of ore and of barren rock, do not differ a hundredfold between zones if the
+#: richer has a mean of more than 20 g/t or 20 %: that is a grade in another unit.
 APART, RICH = 100.0, 20.0
 
-#: Of many grades the highest ones rise without such a step: a mark of what is missing is above it.
+#: Of many grades the highest ones rise without such a step: a mark of a missing value is above it.
 STEP, MANY = 10.0, 30
 
 
 @dataclass(frozen=True)
 class RockModel:
-    """Arrays of n blocks: indices along x, y and z; t; g/t; numbers of zones. `volume` is that of a
-    block in m3, and `height` gives metres of an index along z. `has_shares` says that blocks are
-    known to be rock in part."""
+    """Arrays of n blocks: indices along x, y and z; t; g/t; numbers of zones. `volume` is a block's
+    volume in m3, and `height` returns metres of an index along z. `has_shares` is true if blocks
+    are known to be partly rock."""
 
     index: tuple[np.ndarray, np.ndarray, np.ndarray]
     tonnes: np.ndarray
@@ -69,17 +69,17 @@ class RockModel:
 
     @cached_property
     def is_below(self) -> np.ndarray:
-        """Whether a block has another above it in its column."""
+        """Returns a mask of the blocks that have another above them in their column."""
         return self.index[2] < self.tops[self.column]
 
     @property
     def gaps(self) -> int:
-        """Places between blocks of a column that have none."""
+        """Returns the number of empty positions between blocks of a column."""
         return int((self.tops - self.floors + 1).sum()) - len(self.tonnes)
 
     @property
     def is_box(self) -> bool:
-        """Whether each place of the box has a block."""
+        """Returns whether each position of the box has a block."""
         sides = [int(np.ptp(index)) + 1 for index in self.index]
         return len(self.tonnes) == sides[0] * sides[1] * sides[2] > 8
 
@@ -105,11 +105,11 @@ def ends_of(column: np.ndarray, z: np.ndarray) -> tuple[np.ndarray, np.ndarray]:
     return floors, tops
 
 
-def rock_doubts(model: RockModel) -> Iterator[str]:
+def rock_warnings(model: RockModel) -> Iterator[str]:
     """The lines of a model."""
     wrong = list(_density(model))
     if wrong:
-        # Of another unit or grid nothing else is said.
+        # With another unit or grid nothing else is reported.
         yield from wrong
         return
     yield from _light(model)
@@ -119,7 +119,7 @@ def rock_doubts(model: RockModel) -> Iterator[str]:
 
 
 def _density(model: RockModel) -> Iterator[str]:
-    """Tonnes a cubic metre beyond rock: those in the middle, and what they may be in another
+    """Warns of tonnes per cubic metre beyond rock: the median, and what it may be in another
     unit."""
     heavy = model.tonnes[model.tonnes > 0] / model.volume
     if len(heavy) == 0:
@@ -128,19 +128,19 @@ def _density(model: RockModel) -> Iterator[str]:
     if LIGHT <= middle <= HEAVY:
         if most > HEAVIEST:
             count = int((heavy > HEAVIEST).sum())
-            yield (f"{count:,} blocks weigh more than {HEAVIEST:g} t a cubic metre, up to "
-                   f"{figure(most)}: a mark of what is missing, as 999?")
+            yield (f"{count:,} blocks weigh more than {HEAVIEST:g} t per cubic metre, up to "
+                   f"{figure(most)}: does this mean a missing value, as 999?")
         return
     whys = [("are they densities? Give --density", model.volume),
             ("are they kilotonnes? Give the unit kt", 1000.0),
             ("are they kilograms? Give the unit kg", 0.001),
             ("are lengths in feet? Give --in-feet, or the unit ft", 1 / 0.3048 ** 3),
             ("are lengths in kilometres? Give the unit km", 1e-9),
-            ("is the grid of half the size of blocks?", 1 / 8)]
+            ("is the grid half the size of blocks?", 1 / 8)]
     fits = [why for why, factor in whys if 1.5 <= middle * factor <= HEAVY]
-    yield (f"tonnes a cubic metre are {figure(heavy.min())} to {figure(most)}, {figure(middle)} in "
-           f"the middle, and rock has 1.5 to {HEAVY:g}: "
-           f"{'; '.join(fits) or 'are they the tonnes of other blocks? Look at --size'}")
+    yield (f"tonnes per cubic metre are {figure(heavy.min())} to {figure(most)}, with median "
+           f"{figure(middle)}, but rock has 1.5 to {HEAVY:g}: "
+           f"{'; '.join(fits) or 'are they the tonnes of other blocks? Check --size'}")
 
 
 def _light(model: RockModel) -> Iterator[str]:
@@ -151,8 +151,8 @@ def _light(model: RockModel) -> Iterator[str]:
     light = solid & (model.tonnes < 0.5 * np.median(model.tonnes[solid])) & model.is_below
     # Some blocks at old workings are rock in part.
     if light.sum() > 0.005 * len(light):
-        yield (f"{int(light.sum()):,} blocks that lie below others weigh less than half of the "
-               "middle one: is only their ore counted? The rest of a block is waste, and has to be "
+        yield (f"{int(light.sum()):,} blocks below others weigh less than half of the median "
+               "block: is only their ore counted? The remainder of a block is waste, and must be "
                "dug: --ore-share with --waste-density")
 
 
@@ -165,8 +165,8 @@ def _ground(model: RockModel) -> Iterator[str]:
         barren = model.tonnes[highest & (model.grade == 0)]
         _, counts = np.unique(barren, return_counts=True)
         if model.grade.any() and counts.max(initial=0) > 0.5 * highest.sum():
-            yield ("every place of the box has rock, and most of the highest bench has no grade "
-                   "and one tonnage: is air among it, with a default density? Leave it out by "
+            yield ("every position of the box has rock, and most of the highest bench has no grade "
+                   "and one tonnage: does it include air, with a default density? Omit it by "
                    "--where")
         return
     if len(model.tops) < 9 or np.ptp(z) < 2:
@@ -175,7 +175,7 @@ def _ground(model: RockModel) -> Iterator[str]:
     at_top = float((model.tops == model.tops.max()).mean())
     at_bottom = float((model.floors == model.floors.min()).mean())
     if at_top >= 0.9 and at_bottom < 0.8:
-        yield ("the highest bench is whole and the lowest is not: is z a depth, or are benches "
+        yield ("the highest bench is complete but the lowest is not: is z a depth, or are benches "
                "counted from the top? Give --z=-DEPTH, or --from-top")
 
 
@@ -185,10 +185,11 @@ def _gaps(model: RockModel) -> Iterator[str]:
     empty = empty[empty > z.min()]
     if len(empty):
         yield (f"{len(empty):,} bench{'es' if len(empty) > 1 else ''} without a block, from z = "
-               f"{model.height(int(empty[0]))}: rows that are lost?")
+               f"{model.height(int(empty[0]))}: are rows missing?")
     elif model.gaps > VOIDS * len(z):
-        yield (f"{model.gaps:,} places below a block have none, which is more than old workings "
-               "take: rows that are lost, or rock without tonnes? It would cost nothing to dig")
+        yield (f"{model.gaps:,} positions below a block have none, which is more than old workings "
+               "explain: are rows missing, or does rock have no tonnes? It would cost nothing to "
+               "dig")
 
 
 def _grades(model: RockModel) -> Iterator[str]:
@@ -197,8 +198,8 @@ def _grades(model: RockModel) -> Iterator[str]:
         return
     ranked = np.unique(model.grade)
     if len(ranked) > MANY and ranked[-1] > STEP * ranked[-2]:
-        yield (f"the highest grade, {_told(model, ranked[-1])}, is more than {STEP:g} times the "
-               f"next, {_told(model, ranked[-2])}: a mark of what is missing, as 999?")
+        yield (f"the highest grade, {_text_of(model, ranked[-1])}, is more than {STEP:g} times the "
+               f"next, {_text_of(model, ranked[-2])}: does it mean a missing value, as 999?")
     yield from zones_apart(model)
 
 
@@ -212,8 +213,8 @@ def zones_apart(model: RockModel) -> Iterator[str]:
     if (len(known) and known.max() > APART * known.min()
             and model.measures.grade(float(known.max())) > RICH):
         yield (f"the mean grade of zone {model.names[int(means.argmax())]} is "
-               f"{_told(model, known.max())}, a hundred times that of another: in another unit?")
+               f"{_text_of(model, known.max())}, a hundred times another's: is it in another unit?")
 
 
-def _told(model: RockModel, grade: float) -> str:
+def _text_of(model: RockModel, grade: float) -> str:
     return f"{model.measures.grade(grade):.4g} {model.measures.grade_unit}"

@@ -1,11 +1,11 @@
-"""Reads what a package's resource report says that zones hold.
+"""Reads the contents of zones from a package's resource report.
 
     Zone,Cut-off (g/t),Tonnes (Mt),Au (g/t),Metal (koz)
     west,,18.972,0.684,417.4
     west,0.3,13.204,0.931,395.2
     total,,44.734,0.798,1148.2
 
-Columns are known by their names, in any case. A unit is in the header or in the cell."""
+Columns are recognised by their names, in any case. A unit is in the header or in the cell."""
 from __future__ import annotations
 
 import csv
@@ -70,8 +70,8 @@ class Value(NamedTuple):
 
 @dataclass(frozen=True)
 class Stated:
-    """What a row says of a zone, or of all where `zone` is empty; `place` is the row's place, and
-    `cut_off` in g/t the grade from which rock counts."""
+    """The figures of a row for a zone, or for all if `zone` is empty; `place` is the row's
+    position, and `cut_off` in g/t the grade from which rock counts."""
 
     zone: str
     place: str
@@ -80,8 +80,8 @@ class Stated:
 
     @classmethod
     def of_record(cls, record: dict[str, Any]) -> Stated:
-        """A row as BASE.json has it. It raises KeyError, TypeError or ValueError for what is
-        none."""
+        """Returns a row from BASE.json. It raises KeyError, TypeError or ValueError for anything
+        else."""
         figures = {str(name): Value(*map(float, pair)) for name, pair in record["figures"].items()}
         cut_off = record["cut_off"]
         return cls(str(record["zone"]), str(record["place"]), figures,
@@ -94,8 +94,8 @@ class Stated:
 
 @dataclass
 class Statement:
-    """The rows of reports; `taken` has the units that were taken where none was given, and
-    `ignored` the columns that were not read."""
+    """The rows of reports; `taken` has the units that were used if none was given, and `ignored`
+    the columns that were not read."""
 
     rows: list[Stated] = field(default_factory=list)
     taken: list[str] = field(default_factory=list)
@@ -113,7 +113,7 @@ class Statement:
 @dataclass(frozen=True)
 class Known:
     """What a report may name: the zones, columns of zones, columns of grades, and the unit of
-    grades that was said to `import`, or none."""
+    grades that was given to `import`, or none."""
 
     zones: Sequence[str]
     zone_columns: Sequence[str] = ()
@@ -122,27 +122,27 @@ class Known:
 
     @property
     def is_money(self) -> bool:
-        """Whether the grade is a net smelter return."""
+        """Returns whether the grade is a net smelter return."""
         return is_money_a_tonne(self.grade_unit)
 
     def zone_of(self, text: str, place: str) -> str:
         """The zone of a cell, empty for all. It raises UserError for one that is not known."""
         plain = _plain(text)
-        alike = [zone for zone in self.zones if _plain(zone) == plain]
+        similar = [zone for zone in self.zones if _plain(zone) == plain]
         if text.strip() in self.zones:
             return text.strip()
-        if len(alike) == 1:
-            return alike[0]
+        if len(similar) == 1:
+            return similar[0]
         if plain in TOTALS:
             return ""
         near = difflib.get_close_matches(plain, map(_plain, self.zones), 1)
         hint = f"; is it {near[0]}?" if near else ""
-        raise UserError(f"{place}: no zone `{text.strip()}`: there are "
+        raise UserError(f"{place}: no zone `{text.strip()}`: the zones are "
                         f"{', '.join(self.zones)}{hint}")
 
     def factor(self, unit: str, kind: str) -> Optional[float]:
-        """What a unit of this kind is in that in which figures are kept, or None. It raises
-        UserError for one that is read in two ways."""
+        """Returns a unit of this kind in the unit in which figures are stored, or None. It raises
+        UserError for one that has two meanings."""
         if kind == "cut-off":
             kind = "grade"
         if self.is_money and kind in ("grade", "metal"):
@@ -155,7 +155,7 @@ class Known:
         return None if found is None else float(found)
 
     def default_unit(self, kind: str) -> str:
-        """The unit of figures that have none, or an empty text where one must be given."""
+        """Returns the unit of figures that have none, or an empty text if one must be given."""
         if kind in ("grade", "cut-off"):
             return self.grade_unit or "g/t"
         return {"tonnes": "t", "volume": "m3"}.get(kind, "")
@@ -165,14 +165,14 @@ def _money_factor(unit: str, kind: str) -> Optional[float]:
     """The factor of a return: `USD/t` of a grade, and `USD`, `kUSD` or `MUSD` of a metal."""
     if kind == "grade":
         return 1.0 if is_money_a_tonne(unit) else None
-    for front, factor in (("", 1.0), ("k", 1e3), ("M", 1e6)):
-        if unit.startswith(front) and unit[len(front):].casefold() in MONEY:
+    for prefix, factor in (("", 1.0), ("k", 1e3), ("M", 1e6)):
+        if unit.startswith(prefix) and unit[len(prefix):].casefold() in MONEY:
             return factor
     return None
 
 
 def _plain(text: str) -> str:
-    """A name without case, and with one blank between words."""
+    """Returns a name without case, and with one blank between words."""
     return " ".join(re.sub(r"[_\s]+", " ", text).split()).casefold()
 
 
@@ -203,7 +203,7 @@ def _records_of(path: str) -> list[tuple[int, list[str]]]:
     if not text.strip():
         raise UserError(f"{path}: it is empty")
     if "\0" in text:
-        raise UserError(f"{path}: it is no text: give the report as CSV")
+        raise UserError(f"{path}: it is not text: give the report as CSV")
     head = next((line for line in text.splitlines() if re.search("(?i)tonn|tons|mass", line)), text)
     reader = csv.reader(io.StringIO(text, newline=""), delimiter=max(",;\t|", key=head.count))
     try:
@@ -226,16 +226,16 @@ def _header_of(records: Sequence[tuple[int, list[str]]], known: Known,
             others = [cells[other].strip() for other, (same, _) in found.items()
                       if same == kind and other < number]
             if others:
-                raise UserError(f"{place}: {others[0]} is the column of {kind} already")
+                raise UserError(f"{place}: {others[0]} is already the column of {kind}")
             _judge_unit(unit, kind, known, place)
         return at, found
     line, cells = records[0]
-    raise UserError(f"{path}: line {line}: no column is `tonnes` or `tonnage`: there are "
+    raise UserError(f"{path}: line {line}: no column is `tonnes` or `tonnage`: the columns are "
                     f"{', '.join(cell.strip() for cell in cells)[:200]}")
 
 
 def _kind_of(header: str, known: Known) -> Optional[tuple[str, str]]:
-    """The kind of a column and the unit in its header, or None if it is none of them."""
+    """Returns the kind of a column and the unit in its header, or None for any other column."""
     words = re.sub(r"[_\[\](){},]+", " ", header).split()
     plain = " ".join(words).casefold()
     names = {name: kind for kind, some in NAMES.items() for name in some}
@@ -255,30 +255,31 @@ def _kind_of(header: str, known: Known) -> Optional[tuple[str, str]]:
 
 
 def _judge_unit(unit: str, kind: str, known: Known, place: str) -> None:
-    """Refuses a unit that is not known."""
+    """Rejects an unknown unit."""
     if not unit:
         return
     if kind in ("zone", "blocks", *EXTENTS):
         if kind in EXTENTS and unit in ("m", "ft"):
             return
-        raise UserError(f"{place}: `{unit}` is no unit of {kind}")
+        raise UserError(f"{place}: `{unit}` is not a unit of {kind}")
     try:
         factor = known.factor(unit, kind)
     except UserError as error:
         raise UserError(f"{place}: {error}") from None
     if factor is None:
-        raise UserError(f"{place}: `{unit}` is no unit of {kind} that is known")
+        raise UserError(f"{place}: `{unit}` is not a known unit of {kind}")
 
 
 def _marks_of(cells: Sequence[str], path: str) -> Marks:
-    """How numbers are spelled in these cells, whose units are omitted."""
+    """Returns how numbers are written in these cells, whose units are omitted."""
     found = (NUMBER.fullmatch(cell.strip()) for cell in cells if len(cell.strip()) <= MOST_CELL)
     texts = [one[1].strip() for one in found if one]
     try:
         return marks_of([pd.Series(texts, dtype=str)])
     except UserError as error:
-        raise UserError(f"{path}: {str(error).partition(': say')[0].partition(': name')[0]}: write "
-                        "numbers with a decimal point, and nothing between thousands") from None
+        raise UserError(f"{path}: {str(error).partition(': choose')[0].partition(': give')[0]}: "
+                        "write numbers with a decimal point, and nothing between "
+                        "thousands") from None
 
 
 def _row_of(path: str, line: int, cells: Sequence[str], names: Sequence[str],
@@ -294,7 +295,7 @@ def _row_of(path: str, line: int, cells: Sequence[str], names: Sequence[str],
             zone = known.zone_of(cell, place)
         elif cell.casefold() in marks.missing:
             if kind == "tonnes":
-                raise UserError(f"{place}: there are no tonnes")
+                raise UserError(f"{place}: the tonnes are missing")
         elif kind == "cut-off":
             cut_off = _value(re.sub(r"^[>=≥\s]+", "", cell), kind, unit, known, marks, place,
                              statement).value
@@ -309,7 +310,7 @@ def _value(cell: str, kind: str, unit: str, known: Known, marks: Marks, place: s
     found = NUMBER.fullmatch(cell) if len(cell) <= MOST_CELL else None
     text = marks.plain(found[1]) if found else None
     if not found or not text:
-        raise UserError(f"{place}: `{cell[:MOST_CELL]}` is no number")
+        raise UserError(f"{place}: `{cell[:MOST_CELL]}` is not a number")
     own = found[2]
     _judge_unit(own, kind, known, place)
     unit = own or unit
@@ -338,14 +339,14 @@ EXPECTED = re.compile(r"(?:(?P<zone>.*):)?\s*(?P<tonnes>[^:]+?)(?:\s+at\s+(?P<gr
 
 
 def take_expected(text: str, known: Known, statement: Statement) -> None:
-    """Adds what `--expect` says. It raises UserError for what it does not understand."""
+    """Adds the figures of `--expect`. It raises UserError for what it does not understand."""
     found = EXPECTED.fullmatch(text) if len(text) < 4 * MOST_CELL else None
     if not found:
-        raise UserError(f"--expect: `{text}`: give it as 'west: 1.975 Mt at 0.226 g/t'")
+        raise UserError(f"--expect: `{text}`: write it as 'west: 1.975 Mt at 0.226 g/t'")
     place = f"--expect '{text}'"
     if found["zone"] is not None and not found["zone"].strip():
-        raise UserError(f"{place}: no zone stands before the colon: name it, or leave out the "
-                        "colon for all zones")
+        raise UserError(f"{place}: no zone precedes the colon: name it, or omit the colon for all "
+                        "zones")
     cells = {"tonnes": found["tonnes"], "grade": found["grade"], "metal": found["metal"],
              "cut-off": found["cut"]}
     marks = _marks_of([cell for cell in cells.values() if cell], "--expect")

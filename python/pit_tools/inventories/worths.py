@@ -1,5 +1,5 @@
-"""What the rock of each zone is worth by a plan: the tonnes that pay, their grade and value, before
-any pit is sought."""
+"""The worth of each zone's rock by a plan: the tonnes that pay, their grade and value, before any
+pit is sought."""
 from __future__ import annotations
 
 import numpy as np
@@ -8,7 +8,7 @@ from pit_tools.instances.arrays import Blocks
 from pit_tools.instances.valuation import values_of
 from pit_tools.inventories.holdings import Holdings
 from pit_tools.plans.file import Plan
-from pit_tools.texts.spelling import with_commas
+from pit_tools.texts.number_texts import with_commas
 from pit_tools.texts.units import Measures
 
 

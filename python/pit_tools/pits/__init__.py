@@ -1,1 +1,1 @@
-"""The ultimate pit and nested pits, what they hold, their surfaces, and the way back to rows."""
+"""The ultimate pit and nested pits, their contents, their surfaces, and the way back to rows."""

@@ -1,8 +1,8 @@
-"""Takes a pit or a schedule back to where its blocks lie: as coordinates, and onto the rows of the
+"""Writes a pit or a schedule at the positions of its blocks: as coordinates, and on the rows of the
 export.
 
-A pit's file has a block on each line; a schedule's its period, then its destination, and then the
-share of the block, as far as they are given. A line without a share, among others with one, has the
+A pit's file has a block on each line; a schedule's also its period, then its destination, and then
+the share of the block, if they are given. A line without a share, among others with one, has the
 share 1.
 """
 from __future__ import annotations
@@ -24,22 +24,22 @@ from pit_tools.plans.file import Plan
 from pit_tools.plans.grids import Frame
 from pit_tools.schedules.files import table_of
 from pit_tools.texts.decimals import floats_of
-from pit_tools.texts.spelling import lines_of
+from pit_tools.texts.number_texts import lines_of
 
-#: The columns behind the block, by how many fields lines have.
+#: The columns after the block, by the number of fields in lines.
 FIELDS = ("period", "destination", "share")
 
-#: No share of a block is greater; one above 1 is for `check-schedule` to tell.
+#: No share of a block is larger; `check-schedule` reports one above 1.
 MOST_SHARE = 1e6
 
-#: How far, in blocks, the export's grid may lie beside the plan's: coordinates of a turned model
-#: are rounded.
+#: How far, in blocks, the export's grid may be off the plan's: coordinates of a turned model are
+#: rounded.
 NOISE = 0.1
 
 
 @dataclass(frozen=True)
 class Mined:
-    """Lines of a pit or a schedule, arrays of m; a column that the file lacks is None."""
+    """Lines of a pit or a schedule, arrays of m; a column that the file does not have is None."""
 
     block: np.ndarray
     period: Optional[np.ndarray] = None
@@ -54,26 +54,27 @@ class Mined:
         return np.ones(len(self.block)) if self.share is None else self.share
 
     def in_pit(self, blocks: int) -> np.ndarray:
-        """Which blocks are mined, in part or whole, bool (blocks,)."""
+        """Returns which blocks are mined, in part or completely, bool (blocks,)."""
         found = np.zeros(blocks, dtype=bool)
         found[self.block[self.shares() > 1e-6]] = True
         return found
 
 
 def read_mined(path: str, plan: Plan, blocks: int) -> Mined:
-    """A pit or a schedule.
+    """Reads a pit or a schedule.
 
-    Raises UserError if lines have not as many fields, or one is no block, period or destination.
+    Raises UserError if lines differ in their number of fields, or if a field is not a block, period
+    or destination.
     """
     table = table_of(path, len(FIELDS) + 1)
     if table.empty:
         return Mined(np.empty(0, dtype=np.int64))
     if table.shape[1] == len(FIELDS) + 1:
         table = table.fillna({len(FIELDS): "1"})
-    lacking = table.isna().any(axis=1)
+    absent = table.isna().any(axis=1)
     numbers = table.apply(lambda column: pd.Series(floats_of(column), column.index))
     ends = [blocks, plan.periods, len(plan.destinations)]
-    bad = lacking | numbers.isna().any(axis=1) | (table.shape[1] > 4)
+    bad = absent | numbers.isna().any(axis=1) | (table.shape[1] > 4)
     for column, end in zip(numbers.columns, ends):
         bad |= (numbers[column] % 1 != 0) | (numbers[column] < 0) | (numbers[column] >= end)
     for column in numbers.columns[len(ends):]:
@@ -81,14 +82,14 @@ def read_mined(path: str, plan: Plan, blocks: int) -> Mined:
     if bad.any():
         at = int(np.flatnonzero(bad)[0])
         shown = " ".join(table.iloc[at].dropna())
-        raise UserError(f"{path}: line {table.index[at]}: no line of a pit or a schedule of these "
-                        f"blocks: `{shown[:60]}`")
+        raise UserError(f"{path}: line {table.index[at]}: it is not a line of a pit or a schedule "
+                        f"of these blocks: `{shown[:60]}`")
     columns = [numbers[at].to_numpy(np.int64 if at < 3 else float) for at in numbers.columns]
     return Mined(*columns)
 
 
 def texts_of(multiples: np.ndarray, decimals: int) -> np.ndarray:
-    """Shortest decimals of whole multiples of 10^-decimals, an object array of str."""
+    """Returns the shortest decimals of multiples of 10^-decimals, an object array of str."""
     return np.array(b"".join(lines_of([(multiples, decimals)])).decode().split("\n")[:-1],
                     dtype=object)
 
@@ -122,12 +123,12 @@ def placed(plan: Plan, blocks: Blocks, mined: Mined, with_all: bool = False,
     table["mined"] = (np.arange(len(ids)) < count).astype(int)
     for name in mined.columns:
         texts = np.full(len(ids), "", dtype=object)
-        texts[:count] = _told(plan, name, getattr(mined, name))
+        texts[:count] = _text_of(plan, name, getattr(mined, name))
         table[name] = texts
     return table
 
 
-def _told(plan: Plan, name: str, values: np.ndarray) -> np.ndarray:
+def _text_of(plan: Plan, name: str, values: np.ndarray) -> np.ndarray:
     if name == "destination":
         return np.array([one.name for one in plan.destinations], dtype=object)[values]
     if name == "share":
@@ -136,11 +137,11 @@ def _told(plan: Plan, name: str, values: np.ndarray) -> np.ndarray:
 
 
 def by_block(plan: Plan, mined: Mined, blocks: int, with_shares: bool = False) -> pd.DataFrame:
-    """What is reported of each block on rows of its own: `mined`, 0, 1 or a share, and period and
-    destination of its greatest share, empty texts if it is not mined. With shares there is
-    besides a column `share_T` for each period T.
+    """Returns the columns of each block: `mined`, 0, 1 or a share, and period and destination of
+    its largest share, empty texts if it is not mined. With shares there is also a column `share_T`
+    for each period T.
 
-    Raises UserError if shares are asked for of a pit, which has no periods.
+    Raises UserError if shares of a pit are requested, which has no periods.
     """
     shares = mined.shares()
     total = np.zeros(blocks)
@@ -149,11 +150,11 @@ def by_block(plan: Plan, mined: Mined, blocks: int, with_shares: bool = False) -
     table = pd.DataFrame({"block": np.arange(blocks), "mined": _share_texts(total)})
     for name in mined.columns[:2]:
         texts = np.full(blocks, "", dtype=object)
-        texts[mined.block[order]] = _told(plan, name, getattr(mined, name))[order]
+        texts[mined.block[order]] = _text_of(plan, name, getattr(mined, name))[order]
         table[name] = texts
     if with_shares:
         if mined.period is None:
-            raise UserError("--shares are those of periods, and a pit has none: give a schedule")
+            raise UserError("--shares need periods, but a pit has none: give a schedule")
         for period in range(plan.periods):
             taken = mined.period == period
             found = np.bincount(mined.block[taken], shares[taken], blocks)
@@ -162,66 +163,66 @@ def by_block(plan: Plan, mined: Mined, blocks: int, with_shares: bool = False) -
 
 
 def _share_texts(shares: np.ndarray) -> np.ndarray:
-    """Shares to 6 decimals, one text for those that are the same: most are 0 or 1."""
+    """Returns shares to 6 decimals, one text for equal ones: most are 0 or 1."""
     each, at = np.unique(np.rint(shares * 1e6).astype(np.int64), return_inverse=True)
     return texts_of(each, 6)[at]
 
 
 def onto_rows(imported_path: str, plan: Plan, blocks: Blocks, mined: Mined,
               place: Optional[str], with_shares: bool = False) -> tuple[int, int, int]:
-    """Writes the export's own rows with what is reported of their blocks behind, or prints them
-    where no place is given: every row has its block's, sub-blocks that of their parent. Answers
-    how many rows there are, how many have a block, and how many blocks that are mined have no
-    row.
+    """Writes the export's own rows followed by the columns of their blocks, or prints them if no
+    place is given: sub-blocks get their parent's. Returns the number of rows, of rows with a block,
+    and of mined blocks without a row.
 
     `imported_path` is BASE.json of `pit-tools import`, by which the export is read again. Cells
-    stay as they are; rows that are no block, as air, have empty cells, and a row of several
-    blocks has the first and the means of what is mined. Raises UserError if the export is another
-    than `import` read or cannot be read again, or its grid is not the plan's. Of an export in
-    Parquet the rows are Parquet too, with numbers in the columns behind, and need a place.
+    stay unchanged; rows without a block, as air, have empty cells, and a row of several blocks has
+    the first and the means of what is mined. Raises UserError if the export differs from what
+    `import` read or cannot be read again, or its grid is not the plan's. Rows of an export in
+    Parquet are written as Parquet, with numbers in the added columns, and need a place.
     """
     from pit_tools.imports.record import read_imported
     from pit_tools.imports.steps import import_export
 
-    told = by_block(plan, mined, len(blocks), with_shares)
+    columns = by_block(plan, mined, len(blocks), with_shares)
     read = read_imported(imported_path)
     again = import_export(read.exports, read.words)
     block_at = _block_at(plan, blocks, again)
     without = len(np.setdiff1d(mined.block, block_at))
     progress.step("writes rows")
-    behind = Behind(again, block_at, told)
+    appended = Appended(again, block_at, columns)
     if all(source.kind == "Parquet" for source in again.sources):
         if not place:
-            raise UserError("the export is Parquet, which is not printed: give --out")
-        rows = pd.concat([behind.with_numbers(number) for number in range(len(again.sources))],
+            raise UserError("the export is Parquet, which cannot be printed: give --out")
+        rows = pd.concat([appended.with_numbers(number) for number in range(len(again.sources))],
                          ignore_index=True)
         content = bytes_of(rows)
         with outputs.opened(place, "rows of a pit in Parquet") as file:
             file.write(content)
         return len(rows), int(rows["block"].notna().sum()), without
     with outputs.opened_or_printed(place, "rows of a pit", "utf-8", "") as out:
-        return (*_rows_written(again, behind, out), without)
+        return (*_rows_written(again, appended, out), without)
 
 
-class Behind:
-    """What is reported of blocks, behind the rows of each export."""
+class Appended:
+    """Returns the columns of blocks, to follow the rows of each export."""
 
-    def __init__(self, again: Imported, block_at: np.ndarray, told: pd.DataFrame) -> None:
-        self.again, self.block_at, self.told = again, block_at, told
+    def __init__(self, again: Imported, block_at: np.ndarray, columns: pd.DataFrame) -> None:
+        self.again, self.block_at, self.added = again, block_at, columns
 
     def of_file(self, number: int) -> tuple[pd.Series, Optional[pd.DataFrame]]:
-        """The block of each record of an export, and what is mined of records that were cut."""
+        """Returns the block of each record of an export, and what is mined of records that were
+        cut."""
         in_file = (self.again.places["file"] == number).to_numpy()
         of_part = pd.Series(self.block_at[in_file],
                             index=self.again.places["record"][in_file].to_numpy())
-        cut = _mined_of_cut_rows(self.told, of_part) if of_part.index.has_duplicates else None
+        cut = _mined_of_cut_rows(self.added, of_part) if of_part.index.has_duplicates else None
         return of_part[~of_part.index.duplicated()], cut
 
     def rows(self, index: pd.Index, of_record: pd.Series,
              cut: Optional[pd.DataFrame]) -> tuple[pd.DataFrame, np.ndarray]:
-        """Texts behind these records, and their blocks, -1 if there is none."""
+        """Returns texts to follow these records, and their blocks, -1 if there is none."""
         ids = of_record.reindex(index).fillna(-1).to_numpy(np.int64)
-        found = self.told.iloc[np.maximum(ids, 0)].astype(object)
+        found = self.added.iloc[np.maximum(ids, 0)].astype(object)
         found.loc[ids < 0, :] = ""
         found.index = index
         if cut is not None:
@@ -230,7 +231,7 @@ class Behind:
         return found, ids
 
     def with_numbers(self, number: int) -> pd.DataFrame:
-        """The rows of Parquet as they were read, and numbers behind them."""
+        """Returns the rows of Parquet as they were read, followed by numbers."""
         source = self.again.sources[number]
         assert source.sheet is not None
         found, _ = self.rows(source.sheet.index, *self.of_file(number))
@@ -240,17 +241,17 @@ class Behind:
         return pd.concat([source.sheet.set_axis(source.names, axis=1), found], axis=1)
 
 
-def _rows_written(again: Imported, behind: Behind, out: IO[str]) -> tuple[int, int]:
+def _rows_written(again: Imported, appended: Appended, out: IO[str]) -> tuple[int, int]:
     rows = found = 0
     for number, source in enumerate(again.sources):
         separator = "," if source.separator in ("", " ") else source.separator
         lines = csv.writer(out, delimiter=separator, lineterminator="\n")
         if not number:
-            lines.writerow([*source.names, *behind.told.columns])
-        of_record, cut = behind.of_file(number)
+            lines.writerow([*source.names, *appended.added.columns])
+        of_record, cut = appended.of_file(number)
         left = len(source.units)
         for table in source.chunks(range(len(source.names))):
-            texts, ids = behind.rows(table.index, of_record, cut)
+            texts, ids = appended.rows(table.index, of_record, cut)
             lines.writerows(zip(*(part.iloc[:, at].tolist() for part in (table, texts)
                                   for at in range(part.shape[1]))))
             rows += max(0, len(table) - left)
@@ -260,12 +261,12 @@ def _rows_written(again: Imported, behind: Behind, out: IO[str]) -> tuple[int, i
     return rows, found
 
 
-def _mined_of_cut_rows(told: pd.DataFrame, of_part: pd.Series) -> pd.DataFrame:
-    """Of rows that `import` cut into several blocks, the means of what is mined of these, whole and
-    by period, as texts by record."""
+def _mined_of_cut_rows(columns: pd.DataFrame, of_part: pd.Series) -> pd.DataFrame:
+    """Returns, for rows that `import` cut into several blocks, the means of what is mined of these,
+    in total and by period, as texts by record."""
     parts = of_part[of_part.index.duplicated(keep=False) & (of_part >= 0).to_numpy()]
-    names = [name for name in told.columns if name == "mined" or name.startswith("share_")]
-    shares = told[names].iloc[parts.to_numpy()].apply(pd.to_numeric).set_axis(parts.index)
+    names = [name for name in columns.columns if name == "mined" or name.startswith("share_")]
+    shares = columns[names].iloc[parts.to_numpy()].apply(pd.to_numeric).set_axis(parts.index)
     means = shares.groupby(level=0).mean()
     return means.apply(lambda mean: _share_texts(mean.to_numpy()))
 
@@ -279,7 +280,7 @@ def _block_at(plan: Plan, blocks: Blocks, again: Imported) -> np.ndarray:
             raise UserError("the export's blocks have another size than the plan's")
         move = (again.grid.origin[axis] - plan.grid.origin[axis]) / plan.grid.size[axis]
         if abs(move - round(move)) > NOISE:
-            raise UserError("the export's grid lies beside the plan's")
+            raise UserError("the export's grid is off the plan's")
         moves.append(round(move))
     for columns in ((blocks.x, blocks.y, blocks.z),
                     [again.places[name].to_numpy() + move

@@ -1,12 +1,12 @@
-"""The ultimate pit: blocks of greatest value in all, each with all that it waits for.
+"""The ultimate pit: blocks of largest total value, each with all its predecessors.
 
     from pit_tools.pits.closure import ultimate_pit
     in_pit = ultimate_pit(mine.upit.values, mine.precedence)         # bool, (n,)
 
-A program of C++ (compiled.py) finds it: a million blocks at K = 1 in a second or two. Where there
-is no compiler, HiGHS of scipy solves the linear program, which takes minutes beyond some ten
-thousand blocks. Both are exact: values are counted by their finest decimal, the sixth at the most.
-Of several pits of greatest value the program takes the smallest; HiGHS may take another.
+A C++ program (compiled.py) finds it: a million blocks at K = 1 in a second or two. Without a
+compiler, HiGHS of scipy solves the linear program, which takes minutes beyond about ten thousand
+blocks. Both are exact: values are counted in their finest decimal, at most the sixth. Of several
+pits of largest value the program returns the smallest; HiGHS may return another.
 """
 from __future__ import annotations
 
@@ -21,14 +21,14 @@ from pit_tools.instances.arrays import Blocks, arcs_of
 from pit_tools.pits.compiled import library
 from pit_tools.plans.cones import Places, cone_offsets, precedence_of, size_in_millimetres
 from pit_tools.plans.file import Plan
-from pit_tools.texts.spelling import multiples_of
+from pit_tools.texts.number_texts import multiples_of
 
-#: Arcs up to which HiGHS is asked if there is no compiler.
+#: The number of arcs up to which HiGHS is used if there is no compiler.
 MOST_ARCS_OF_HIGHS = 2_000_000
 
 
 def is_compiled() -> bool:
-    """Whether the program of C++ is there, or could be made."""
+    """Returns whether the C++ program exists, or could be made."""
     return library() is not None
 
 
@@ -38,19 +38,19 @@ def _pointer(array: np.ndarray) -> ctypes.c_void_p:
 
 def _called(function: str, *arguments: object) -> None:
     if getattr(library(), function)(*arguments):
-        raise UserError("memory was refused")
+        raise UserError("out of memory")
 
 
 def ultimate_pit(values: np.ndarray, precedence: sparse.spmatrix) -> np.ndarray:
-    """Which blocks are in the pit, bool (n,), by their values (n,), in units of 100 cents, and all
-    arcs (n, n), a matrix of any format of scipy, or an array.
+    """Returns which blocks are in the pit, bool (n,), from their values (n,), in units of 100
+    cents, and all arcs (n, n), a matrix of any format of scipy, or an array.
 
-    Raises UserError if values have more than six decimals or are too great for theirs, memory was
-    refused, or there is no C++ compiler and there are more arcs than HiGHS would end with.
+    Raises UserError if values have more than six decimals or are too large for theirs, if memory
+    runs out, or if there is no C++ compiler and there are more arcs than HiGHS could handle.
     """
     worth, precedence = multiples_of(values)[0], arcs_of(precedence)
     if len(worth) != precedence.shape[0]:
-        raise UserError(f"there are {len(worth)} values and {precedence.shape[0]} blocks")
+        raise UserError(f"there are {len(worth)} values, but {precedence.shape[0]} blocks")
     if not is_compiled():
         return _pit_by_highs(worth, precedence)
     starts = np.ascontiguousarray(precedence.indptr, dtype=np.int64)
@@ -62,8 +62,8 @@ def ultimate_pit(values: np.ndarray, precedence: sparse.spmatrix) -> np.ndarray:
 
 def _pit_by_highs(worth: np.ndarray, precedence: sparse.csr_matrix) -> np.ndarray:
     if precedence.nnz > MOST_ARCS_OF_HIGHS:
-        raise UserError(f"{precedence.nnz:,} arcs want the program of C++, and no compiler is "
-                        "there: apt-get install g++")
+        raise UserError(f"{precedence.nnz:,} arcs need the C++ program, but no compiler is "
+                        "installed: apt-get install g++")
     arcs = precedence.tocoo()
     count = precedence.nnz
     rows = np.concatenate([np.arange(count)] * 2)
@@ -80,7 +80,7 @@ def _pit_by_highs(worth: np.ndarray, precedence: sparse.csr_matrix) -> np.ndarra
 
 @dataclass(frozen=True)
 class Periods:
-    """The closure of greatest value of blocks by the ends of periods, and the flow that proves
+    """The closure of largest value of blocks by the ends of periods, and the flow that proves
     it."""
 
     first: np.ndarray  #: the first period by whose end each block is in it, or periods, int32 (n,)
@@ -92,19 +92,19 @@ class Periods:
 
 def closure_of_periods(values: np.ndarray, precedence: sparse.csr_matrix,
                        with_flows: bool = False) -> Periods:
-    """The closure of greatest value of blocks by the ends of periods, by the integers that each
-    block counts if it is mined by then, int64 (periods, n). A block is in it by the end of a
-    period only with all that it waits for, and then by the ends of all later ones. Without
+    """Returns the closure of largest value of blocks by the ends of periods, from the integers that
+    each block counts if it is mined by then, int64 (periods, n). A block is in it by the end of a
+    period only with all its predecessors, and then by the ends of all later periods. Without
     `with_flows` the lists are empty.
 
-    Raises UserError if memory was refused, there is no C++ compiler, or there are too many blocks
-    and periods.
+    Raises UserError if memory runs out, there is no C++ compiler, or there are too many blocks and
+    periods.
     """
     periods, n = values.shape
     if not is_compiled():
-        raise UserError("no C++ compiler is there: apt-get install g++")
+        raise UserError("no C++ compiler is installed: apt-get install g++")
     if periods * n >= 2**31:
-        raise UserError(f"{n:,} blocks by {periods} periods are too many")
+        raise UserError(f"{n:,} blocks with {periods} periods are too many")
     values = np.ascontiguousarray(values, dtype=np.int64)
     starts = np.ascontiguousarray(precedence.indptr, dtype=np.int64)
     above = np.ascontiguousarray(precedence.indices, dtype=np.int32)
@@ -130,13 +130,13 @@ def closure_of_periods(values: np.ndarray, precedence: sparse.csr_matrix,
 
 
 def pit_of_plan(values: np.ndarray, blocks: Blocks, plan: Plan) -> tuple[np.ndarray, int]:
-    """The same of blocks whose arcs follow from a plan's cones, without listing all of them: bool
-    (n,), and how many arcs there are that no others imply.
+    """Returns the pit of blocks whose arcs follow from a plan's cones, without listing all of them:
+    bool (n,), and the number of arcs that no others imply.
 
-    Raises UserError if memory was refused, or there is no C++ compiler.
+    Raises UserError if memory runs out, or there is no C++ compiler.
     """
     if not is_compiled():
-        raise UserError("no C++ compiler is there: apt-get install g++")
+        raise UserError("no C++ compiler is installed: apt-get install g++")
     places, size = Places(blocks), size_in_millimetres(plan.grid)
     reach = [length - 1 for length in places.shape]
     cones = [cone_offsets(size, zone, min(zone.benches, reach[2]), reach[:2])
@@ -156,10 +156,10 @@ def pit_of_plan(values: np.ndarray, blocks: Blocks, plan: Plan) -> tuple[np.ndar
 
 
 def pit_by_cones(values: np.ndarray, blocks: Blocks, plan: Plan) -> np.ndarray:
-    """The pit of blocks whose arcs follow from a plan's cones, bool (n,), by the program of C++
-    or, if no compiler is there, by HiGHS. There may be no block.
+    """Returns the pit of blocks whose arcs follow from a plan's cones, bool (n,), by the C++
+    program or, without a compiler, by HiGHS. There may be no block.
 
-    Raises UserError if memory was refused, or there are more arcs than HiGHS would end with.
+    Raises UserError if memory runs out, or there are more arcs than HiGHS could handle.
     """
     if len(blocks) == 0:
         return np.zeros(0, dtype=bool)
@@ -169,19 +169,20 @@ def pit_by_cones(values: np.ndarray, blocks: Blocks, plan: Plan) -> np.ndarray:
 
 
 def immediate(precedence: sparse.spmatrix) -> sparse.csr_matrix:
-    """The arcs that `pitc_thin` keeps, by the same rule: a predecessor of a block is dropped if it
-    is also a predecessor of another one of the block's predecessors. Pits and schedules stay the
-    same. The arcs (n, n) are a matrix of any format, or an array; predecessors come after their
-    block, as in files of `pitc`.
+    """Returns the arcs that `pitc_thin` keeps, by the same rule: a predecessor of a block is
+    dropped if it is also a predecessor of another one of the block's predecessors. Pits and
+    schedules stay the same. The arcs (n, n) are a matrix of any format, or an array; predecessors
+    come after their block, as in files of `pitc`.
 
-    Raises UserError if they do not, where memory was refused, or there is no C++ compiler.
+    Raises UserError if they do not, if memory runs out, or if there is no C++ compiler.
     """
     if not is_compiled():
-        raise UserError("no C++ compiler is there: apt-get install g++")
+        raise UserError("no C++ compiler is installed: apt-get install g++")
     arcs = arcs_of(precedence)
     rows = np.repeat(np.arange(arcs.shape[0]), np.diff(arcs.indptr))
     if np.any(arcs.indices <= rows):
-        raise UserError("a block comes behind one that it waits for")
+        raise UserError("a block follows one of its successors: predecessors must come after their "
+                        "block")
     starts, kept = arcs.indptr.astype(np.int64), np.empty(arcs.nnz, dtype=np.uint8)
     above = np.ascontiguousarray(arcs.indices, dtype=np.int32)
     _called("immediate", ctypes.c_int64(arcs.shape[0]), *map(_pointer, (starts, above, kept)))

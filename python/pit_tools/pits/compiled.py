@@ -1,10 +1,10 @@
-"""The program of C++, closure.cpp: as it was packed, or compiled once and kept where nobody else
-can write.
+"""The C++ program, closure.cpp: as it was packed, or compiled once and kept where nobody else can
+write.
 
-A wheel, a package and an archive bring it compiled, beside this module: who could write there could
-write the modules too. Elsewhere it is compiled and kept in the folder `pit-tools` of the user's
-cache. Where that folder is not the user's own, or others may write there, or it cannot be written,
-the program is compiled for this run alone.
+A wheel, a package and an archive bring it compiled, next to this module: a user who could write
+there could also write the modules. Elsewhere it is compiled and kept in the folder `pit-tools` of
+the user's cache. If that folder is not the user's own, or others may write there, or it is not
+writable, the program is compiled for this run only.
 """
 from __future__ import annotations
 
@@ -26,22 +26,24 @@ from pit_tools.files.owners import is_own, nobody_moves
 
 SOURCE = os.path.join(os.path.dirname(__file__), "closure.cpp")
 
-#: How it is compiled, behind the compiler's name: `-s` omits names that no call needs.
+#: The compiler's options, after its name: `-s` omits names that no call needs.
 OPTIONS = ["-O2", "-std=c++17", "-shared", "-fPIC", "-s"]
 
-#: What is reported if there is no program.
-WITHOUT = ("so HiGHS finds pits, which takes minutes beyond some ten thousand blocks, and arcs "
-           "that others imply stay")
+#: The message if there is no program.
+WITHOUT = ("so HiGHS finds pits, which takes minutes beyond about ten thousand blocks, and arcs "
+           "that others imply are kept")
 
 
 def compiler() -> Optional[str]:
-    """The C++ compiler of this machine: that of CXX, or the first of g++, c++ and clang++."""
+    """Returns the C++ compiler of this machine: that of CXX, or the first of g++, c++ and
+    clang++."""
     names = [os.environ.get("CXX", ""), "g++", "c++", "clang++"]
     return next((found for name in names if name and (found := shutil.which(name))), None)
 
 
 def cache() -> Optional[str]:
-    """The folder where the program is kept, made if it is not there; None if there is none."""
+    """Returns the folder where the program is kept, made if it does not exist; None if there is
+    none."""
     home = os.environ.get("XDG_CACHE_HOME", "")
     if not os.path.isabs(home):
         home = os.path.join(os.path.expanduser("~"), ".cache")
@@ -49,7 +51,7 @@ def cache() -> Optional[str]:
         return None
     try:
         os.makedirs(home, mode=0o700, exist_ok=True)
-        # By its real path, so that no link on the way leads elsewhere a moment later.
+        # By its real path, so that no link in it can change its target a moment later.
         home = os.path.realpath(home)
         folder = os.path.join(home, "pit-tools")
         if not os.path.lexists(folder):
@@ -60,7 +62,7 @@ def cache() -> Optional[str]:
         return None
 
 
-def _told(text: str) -> None:
+def _report(text: str) -> None:
     print(f"pit-tools: {text}", file=sys.stderr)
 
 
@@ -72,20 +74,20 @@ def file_name() -> str:
 
 
 def made(path: str) -> bool:
-    """Compiles the program to a path; tells if it cannot."""
+    """Compiles the program to a path; reports if that fails."""
     program = compiler()
     if program is None:
-        _told(f"no C++ compiler is there (apt-get install g++), {WITHOUT}")
+        _report(f"no C++ compiler is installed (apt-get install g++), {WITHOUT}")
         return False
     try:
         done = subprocess.run([program, *OPTIONS, "-o", path, SOURCE], capture_output=True,
                               text=True, errors="replace", check=False)
     except OSError as error:
-        _told(f"{program}: {error.strerror}, {WITHOUT}")
+        _report(f"{program}: {error.strerror}, {WITHOUT}")
         return False
     if done.returncode:
-        _told(f"{program} does not compile {SOURCE} "
-              f"({(done.stderr.strip().splitlines() or ['no word'])[0]}), {WITHOUT}")
+        _report(f"{program} does not compile {SOURCE} "
+                 f"({(done.stderr.strip().splitlines() or ['no word'])[0]}), {WITHOUT}")
     return not done.returncode
 
 
@@ -98,7 +100,7 @@ def _loaded(path: str) -> Optional[ctypes.CDLL]:
 
 @lru_cache(None)
 def library() -> Optional[ctypes.CDLL]:
-    """The program; None if it is not there and cannot be made, which is reported once."""
+    """Returns the program; None if it does not exist and cannot be made, which is reported once."""
     name = file_name()
     packed = os.path.join(os.path.dirname(SOURCE), name)
     if os.path.exists(packed) and (found := _loaded(packed)):
@@ -115,12 +117,13 @@ def library() -> Optional[ctypes.CDLL]:
             _keep(new, path)
         found = _loaded(new)
         if found is None:
-            _told(f"{apart}: no program may be run there (TMPDIR names another folder), {WITHOUT}")
+            _report(f"{apart}: no program may be run there (TMPDIR names another folder), "
+                    f"{WITHOUT}")
         return found
 
 
 def _keep(new: str, path: str) -> None:
-    """Puts the program into the cache for later runs; where that fails they compile it too."""
+    """Puts the program into the cache for later runs; if that fails they compile it too."""
     try:
         if os.path.lexists(path):
             os.unlink(path)

@@ -1,4 +1,4 @@
-"""Pits as files: the identifier of a block on each line; and what a pit holds and is worth."""
+"""Pits as files: the identifier of a block on each line; and a pit's contents and worth."""
 from __future__ import annotations
 
 from typing import NamedTuple, Optional
@@ -10,7 +10,7 @@ from pit_tools.files import outputs
 from pit_tools.instances.arrays import Blocks
 from pit_tools.plans.note import PlanNote
 from pit_tools.texts.lines import block_lines
-from pit_tools.texts.spelling import lines_of, multiples_of
+from pit_tools.texts.number_texts import lines_of, multiples_of
 
 
 def read_pit(path: str, blocks: Optional[int] = None) -> np.ndarray:
@@ -21,11 +21,11 @@ def read_pit(path: str, blocks: Optional[int] = None) -> np.ndarray:
     found = []
     for number, block, fields in block_lines(path):
         if block is None or (blocks is not None and block >= blocks):
-            raise UserError(f"{path}: line {number}: {quoted(fields[0])} is no block")
+            raise UserError(f"{path}: line {number}: {quoted(fields[0])} is not a block")
         found.append(block)
     taken = np.unique(np.array(found, dtype=np.int64))
     if len(taken) != len(found):
-        raise UserError(f"{path}: a block stands twice")
+        raise UserError(f"{path}: a block appears twice")
     return taken
 
 
@@ -37,12 +37,12 @@ class NamedPit(NamedTuple):
 
     @classmethod
     def of(cls, word: str) -> NamedPit:
-        """A word as FILE or FILE=NAME."""
+        """Returns the pit of an argument FILE or FILE=NAME."""
         path, _, name = word.partition("=")
         return cls(path, name)
 
     def of_blocks(self, count: int) -> np.ndarray:
-        """Which of so many blocks are in it, bool (count,); raises as `read_pit` does."""
+        """Returns which of `count` blocks are in it, bool (count,); raises as `read_pit` does."""
         in_pit = np.zeros(count, dtype=bool)
         in_pit[read_pit(self.path, count)] = True
         return in_pit
@@ -57,10 +57,11 @@ def write_pit(in_pit: np.ndarray, path: str) -> None:
         file.writelines(lines_of([(np.flatnonzero(in_pit), 0)]))
 
 
-def told(in_pit: np.ndarray, blocks: Blocks, values: np.ndarray,
-         note: PlanNote = PlanNote()) -> str:
-    """What a pit, bool (n,), holds and is worth, in a line, in the currency of a plan's note."""
+def pit_text(in_pit: np.ndarray, blocks: Blocks, values: np.ndarray,
+            note: PlanNote = PlanNote()) -> str:
+    """Returns a line with the contents and the worth of a pit, bool (n,), in the currency of a
+    plan's sidecar file."""
     worth, decimals = multiples_of(values)
     kilograms = int(np.rint(blocks.tonnes[in_pit] * 1000).astype(np.int64).sum())
     return (f"{in_pit.sum()} blocks, {kilograms // 1000}.{kilograms % 1000:03d} t, worth "
-            f"{note.money_told(int(worth[in_pit].sum()), decimals)}")
+            f"{note.money_text(int(worth[in_pit].sum()), decimals)}")

@@ -17,7 +17,7 @@ from pit_tools.plans.file import Plan, plan_of
 from pit_tools.plans.variations import varied
 from pit_tools.surveys.facts import Facts
 from pit_tools.texts.decimals import decimal_of
-from pit_tools.texts.spelling import with_commas
+from pit_tools.texts.number_texts import with_commas
 from pit_tools.texts.units import POUND, TROY_OUNCE, Measures, is_money_a_tonne
 
 #: Decimals of a factor.
@@ -26,7 +26,7 @@ DECIMALS = 6
 
 @dataclass(frozen=True)
 class NestedPit:
-    """The ultimate pit at so many times the plan's price, bool (n,), and what it holds: its blocks
+    """The ultimate pit at a multiple of the plan's price, bool (n,), and its contents: its blocks
     go where they are worth most at the plan's price itself."""
 
     factor: Decimal
@@ -48,7 +48,7 @@ def factors_of(words: str) -> list[Decimal]:
     for word in words.split(","):
         factor = decimal_of(word, "--factors")
         if not 0 < factor <= 1000:
-            raise UserError(f"--factors: {quoted(word)} is not above 0 and up to 1000")
+            raise UserError(f"--factors: {quoted(word)} must be above 0 and up to 1000")
         if factor != round(factor, DECIMALS):
             raise UserError(f"--factors: {quoted(word)} has more than {DECIMALS} decimals")
         found.append(factor)
@@ -58,7 +58,7 @@ def factors_of(words: str) -> list[Decimal]:
 
 
 def priced(plan: Plan, factor: Decimal) -> Plan:
-    """The plan at so many times its price, rounded as `vary` rounds it.
+    """Returns the plan at a multiple of its price, rounded as `vary` rounds it.
 
     Raises UserError if it has no price.
     """
@@ -67,15 +67,15 @@ def priced(plan: Plan, factor: Decimal) -> Plan:
 
 def nested_pits(facts: Facts, factors: Sequence[Decimal],
                 within: Optional[np.ndarray] = None) -> Iterator[NestedPit]:
-    """The pits at these factors, which rise, the largest first. Each lies within that before it,
-    and the first within the pit of a greater factor, bool (n,), if one is known.
+    """Returns the pits at these factors, which rise, the largest first. Each is within the pit
+    before it, and the first within the pit of a larger factor, bool (n,), if one is known.
 
-    Raises UserError if the values of the instance are not the plan's, so that prices say nothing
-    of them.
+    Raises UserError if the values of the instance are not the plan's, so that prices do not
+    determine them.
     """
     if facts.strange_values:
-        raise UserError(f"{with_commas(facts.strange_values)} values of the instance are not those "
-                        "of this plan, so its prices do not say what they would be")
+        raise UserError(f"{with_commas(facts.strange_values)} values of the instance differ from "
+                        "this plan's, so they do not follow from its prices")
     plan, blocks = facts.plan, facts.blocks
     ids = np.arange(len(blocks)) if within is None else np.flatnonzero(within)
     for factor in reversed(factors):
@@ -88,32 +88,33 @@ def nested_pits(facts: Facts, factors: Sequence[Decimal],
 
 
 def text(pits: Sequence[NestedPit], plan: Plan, measures: Measures) -> str:
-    """A line for each pit; what factor 1 is; and by which price ore and values are reported."""
+    """Yields a line for each pit; what factor 1 is; and the price by which ore and values are
+    reported."""
     lines = [f"NESTED PITS {head(measures)}"]
-    lines += [f"{pit.name:>11} {pit.sums.told(measures)}" for pit in pits]
-    lines += [f"factor 1 is {told}" for told in _prices(plan, measures)]
+    lines += [f"{pit.name:>11} {pit.sums.text(measures)}" for pit in pits]
+    lines += [f"factor 1 is {message}" for message in _prices(plan, measures)]
     lines.append("ore, waste and values of all pits are those at factor 1")
     return "".join(line + "\n" for line in lines)
 
 
 def _prices(plan: Plan, measures: Measures) -> list[str]:
-    """What factor 1 is: the prices of the plan, each with the destinations that have it."""
+    """Returns what factor 1 is: the prices of the plan, each with the destinations that have it."""
     if is_money_a_tonne(measures.grade_unit):
         return ["the net smelter return that was imported"]
     names: dict[int, list[str]] = {}
     for one in plan.destinations:
         if one.bands:
             names.setdefault(one.price, []).append(one.name)
-    return [_price_told(measures.money(price / 100), measures)
+    return [_price_text(measures.money(price / 100), measures)
             + (f", at {' and '.join(those)}" if len(names) > 1 else "")
             for price, those in names.items()]
 
 
-def _price_told(kilogram: float, measures: Measures) -> str:
-    """The price of a kilogram of metal as those of the usual units."""
+def _price_text(kilogram: float, measures: Measures) -> str:
+    """Returns the price of a kilogram of metal in the usual units."""
     ounce, pound = (kilogram * float(kilograms) for kilograms in (TROY_OUNCE / 1000, POUND))
-    return (f"{with_commas(kilogram, 2)}{measures.unit} a kilogram of metal, "
-            f"{with_commas(ounce, 2)} an ounce, {with_commas(pound, 2)} a pound")
+    return (f"{with_commas(kilogram, 2)}{measures.unit} per kilogram of metal, "
+            f"{with_commas(ounce, 2)} per ounce, {with_commas(pound, 2)} per pound")
 
 
 def table(pits: Sequence[NestedPit], measures: Measures) -> Table:

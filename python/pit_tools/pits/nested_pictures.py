@@ -31,7 +31,7 @@ def nested_picture(facts: Facts, pits: Sequence[NestedPit]) -> Figure:
     shades = matplotlib.colormaps["viridis"](np.linspace(0, 0.9, len(pits)))
     colours = [to_hex(shade) for shade in shades]
     outlines = [(pit.in_pit, colour, "-") for pit, colour in zip(pits, colours)]
-    # The largest first, so that the smaller ones lie upon it.
+    # The largest first, so that the smaller ones are drawn over it.
     draw_plane(facts, section, Plane("y", richest(facts, 1)), "grade", outlines[::-1])
     lines = [Line2D([], [], color=colour, label=f"factor {pit.name}")
              for pit, colour in zip(pits, colours)]

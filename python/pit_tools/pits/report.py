@@ -1,4 +1,4 @@
-"""What a pit or a schedule holds: ore, waste, strip ratio, grade, metal and value by bench,
+"""The contents of a pit or a schedule: ore, waste, strip ratio, grade, metal and value by bench,
 destination and period, as text and as tables."""
 from __future__ import annotations
 
@@ -10,13 +10,13 @@ from pit_tools.files.tables import Cell, Column, Table
 from pit_tools.instances.valuation import recoveries
 from pit_tools.pits.back import Mined
 from pit_tools.surveys.facts import Facts
-from pit_tools.texts.spelling import shortest, with_commas
+from pit_tools.texts.number_texts import shortest, with_commas
 from pit_tools.texts.units import Measures
 
 
 class Sums(NamedTuple):
-    """What some lines hold: blocks, by their shares; tonnes; g/t; kilograms; and in units of 100 of
-    what the plan counts their value, and the cost of their waste, which the value has in it."""
+    """The contents of some lines: blocks, by their shares; tonnes; g/t; kilograms; and their value,
+    in units of 100 of the plan's money, and the cost of their waste, which the value includes."""
 
     blocks: float
     ore: float
@@ -34,10 +34,10 @@ class Sums(NamedTuple):
 
     @property
     def strip(self) -> Optional[float]:
-        """Tonnes of waste for one of ore, None if there is no ore."""
+        """Returns the tonnes of waste per tonne of ore, None if there is no ore."""
         return self.waste / self.ore if self.ore else None
 
-    def told(self, measures: Measures) -> str:
+    def text(self, measures: Measures) -> str:
         """The sums below `head`."""
         strip = "-" if self.strip is None else f"{self.strip:.2f}"
         value = with_commas(measures.money(self.value), 2)
@@ -66,13 +66,13 @@ def columns(measures: Measures) -> list[Column]:
 
 
 def pit_sums(facts: Facts, pit: np.ndarray) -> Sums:
-    """What a pit, bool (n,), holds, each block where it is worth most."""
+    """Returns the contents of a pit, bool (n,), each block where it is worth most."""
     return Report(facts, Mined(np.flatnonzero(pit))).sums()
 
 
 class Line(NamedTuple):
     """A line of a report: its name, the height of a bench in metres, its sums, and of a period the
-    discounted value, in units of 100 of what the plan counts."""
+    discounted value, in units of 100 of the plan's money."""
 
     name: str
     sums: Sums
@@ -81,7 +81,7 @@ class Line(NamedTuple):
 
 
 class Report:
-    """The sums of a pit or a schedule. A block goes where its line says, or where it is worth
+    """The sums of a pit or a schedule. A block goes where its line states, or where it is worth
     most."""
 
     def __init__(self, facts: Facts, mined: Mined):
@@ -99,7 +99,7 @@ class Report:
         self.recovered = self.metal * shares[np.arange(len(grades)), self.destination] / 1000
 
     def sums(self, taken: Optional[np.ndarray] = None) -> Sums:
-        """The sums of some lines, those of a mask or of places, or all."""
+        """Returns the sums of some lines, by a mask or positions, or of all."""
         taken = np.arange(len(self.block)) if taken is None else taken
         tonnes, value, is_waste = self.tonnes[taken], self.value[taken], self.is_waste[taken]
         ore_t, metal = tonnes[~is_waste].sum(), self.metal[taken][~is_waste].sum()
@@ -124,15 +124,15 @@ class Report:
         return [*lines, Line("all", self.sums())]
 
     def zones(self) -> list[Line]:
-        """A line for each zone by its name, in the plan's order, and one of all. A zone that is cut
-        into several files, so that its name stands several times, is one."""
+        """Yields a line for each zone by its name, in the plan's order, and one for all. A zone
+        that is cut into several files, so that its name appears several times, is one."""
         names = list(dict.fromkeys(self.facts.zone_names))
         numbers = np.array([names.index(name) for name in self.facts.zone_names])
         zone = numbers[self.facts.blocks.zone[self.block]]
         return [*self.named(zone, names), Line("all", self.sums())]
 
     def named(self, key: np.ndarray, names: Sequence[str]) -> list[Line]:
-        """A line for each name, of the lines whose key, int (n,), is its number; there may be
+        """Yields a line for each name, of the lines whose key, int (n,), is its index; there may be
         none."""
         found, none = self.by(key), self.sums(np.empty(0, dtype=np.int64))
         return [Line(name, found.get(number, none)) for number, name in enumerate(names)]
@@ -181,7 +181,7 @@ class Report:
         return [*found, Table("sides", [Column("side"), Column("blocks")], self.sides())]
 
     def table(self) -> Table:
-        """All of them in one: the part, its name, and empty cells if it has none."""
+        """Returns all of them in one table: the part, its name, and empty cells if it has none."""
         last = [] if self.mined.period is None else [self._discounted_head()]
         heads = [Column("part"), Column("name"), Column("z (m)", 3), *columns(self.measures), *last]
         rows: list[list[Cell]] = []
@@ -207,31 +207,31 @@ class Report:
 
     def text(self) -> str:
         """All parts, with a blank line between."""
-        parts = [self._benches_told(), self._destinations_told(), self._periods_told(),
-                 self._sides_told()]
+        parts = [self._benches_text(), self._destinations_text(), self._periods_text(),
+                 self._sides_text()]
         texts = ("".join(f"{line}\n" for line in lines) for lines in parts)
         return "\n".join(filter(None, texts))
 
-    def _benches_told(self) -> Iterator[str]:
+    def _benches_text(self) -> Iterator[str]:
         yield f"BENCHES  {'z':>9} {head(self.measures)}"
         for line in self.benches():
             z = "" if line.z is None else shortest(line.z, 3)
-            yield f"{line.name:>8} {z:>9} {line.sums.told(self.measures)}"
+            yield f"{line.name:>8} {z:>9} {line.sums.text(self.measures)}"
 
-    def _destinations_told(self) -> Iterator[str]:
+    def _destinations_text(self) -> Iterator[str]:
         yield f"DESTINATIONS       {head(self.measures)}"
         for number, line in enumerate(self.destinations()):
-            yield f"{number} {line.name[:16]:<16} {line.sums.told(self.measures)}"
+            yield f"{number} {line.name[:16]:<16} {line.sums.text(self.measures)}"
 
-    def _periods_told(self) -> Iterator[str]:
+    def _periods_text(self) -> Iterator[str]:
         lines = self.periods()
         if lines:
             yield f"PERIODS            {head(self.measures)} {'discounted':>19}"
         for line in lines:
             value = with_commas(self.measures.money(line.discounted or 0.0), 2)
-            yield f"{line.name:>18} {line.sums.told(self.measures)} {value:>19}"
+            yield f"{line.name:>18} {line.sums.text(self.measures)} {value:>19}"
 
-    def _sides_told(self) -> Iterator[str]:
+    def _sides_text(self) -> Iterator[str]:
         yield "SIDES OF THE MODEL"
         counts = dict(self.sides())
         for side in list(counts)[:4]:

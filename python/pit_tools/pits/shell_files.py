@@ -11,9 +11,9 @@ import numpy as np
 from pit_tools.errors import UserError
 from pit_tools.files import outputs
 from pit_tools.pits.shells import Shell
-from pit_tools.texts.spelling import lines_of, scaled
+from pit_tools.texts.number_texts import lines_of, scaled
 
-#: Decimals of coordinates in an OBJ file: those of a corner of a block are never more than 4.
+#: Decimals of coordinates in an OBJ file: a block's corner never has more than 4.
 DECIMALS = 4
 
 #: Letters of a layer's name in a DXF of release 12, and how many it may have.
@@ -21,22 +21,21 @@ _OTHER, _LONGEST = re.compile(r"[^A-Za-z0-9_$-]"), 31
 
 
 #: Triangles that are held as numbers of Python at a time.
-_PIECE = 1 << 14
+_CHUNK = 1 << 14
 
-#: What writes some surfaces to a place.
+#: A function that writes some surfaces to a place.
 Writer = Callable[[Sequence[Shell], str], None]
 
 
 def writer_of(place: str) -> Writer:
-    """What writes surfaces as one file with such a name: each is a layer of a DXF, an object of an
-    OBJ, and of a VTK the number `pit`, from 0 on, of its triangles.
+    """Returns the function that writes surfaces as one file with such a name: each is a layer of a
+    DXF, an object of an OBJ, and in a VTK the number `pit`, from 0 on, of its triangles.
 
-    Raises UserError for another ending; what is answered does where the package is missing that
-    it calls.
+    Raises UserError for another ending; so does the returned function if its package is missing.
     """
     ending = os.path.splitext(place)[1].lower()
     if ending not in WRITERS:
-        raise UserError(f"--out: `{place}` ends with none of {', '.join(WRITERS)}")
+        raise UserError(f"--out: `{place}` must end with one of {', '.join(WRITERS)}")
     return WRITERS[ending]
 
 
@@ -45,22 +44,23 @@ def _write_dxf(shells: Sequence[Shell], place: str) -> None:
     try:
         from ezdxf.addons.r12writer import r12writer
     except ImportError:
-        raise _lacking("a DXF", "ezdxf") from None
+        raise _absent("a DXF", "ezdxf") from None
     layers = _layers([shell.name for shell in shells])
     with outputs.opened(place, "DXF drawing", "ascii") as file, r12writer(file) as drawing:
         for number, (shell, layer) in enumerate(zip(shells, layers)):
-            for at in range(0, len(shell.triangles), _PIECE):
-                for corners in shell.points[shell.triangles[at:at + _PIECE]].tolist():
+            for at in range(0, len(shell.triangles), _CHUNK):
+                for corners in shell.points[shell.triangles[at:at + _CHUNK]].tolist():
                     drawing.add_3dface(corners, layer=layer, color=1 + number % 6)
 
 
-def _lacking(what: str, package: str) -> UserError:
-    return UserError(f"{what} needs Python's package {package}: apt-get install "
+def _absent(what: str, package: str) -> UserError:
+    return UserError(f"{what} needs the Python package {package}: apt-get install "
                      f"--no-install-recommends python3-{package}")
 
 
 def _layers(names: Sequence[str]) -> list[str]:
-    """The names of layers: those of the pits in letters that a layer may have, each another."""
+    """Returns the names of layers: the pits' names in letters that a layer may have, made
+    unique."""
     found: list[str] = []
     for name in names:
         layer = first = _OTHER.sub("_", name)[:_LONGEST] or "_"
@@ -73,11 +73,12 @@ def _layers(names: Sequence[str]) -> list[str]:
 
 
 def _write_vtk(shells: Sequence[Shell], place: str) -> None:
-    """The legacy form of VTK 4.2, binary: meshio wants a file of its own, which is then copied."""
+    """Writes the legacy form of VTK 4.2, binary: meshio needs its own file, which is then
+    copied."""
     try:
         import meshio
     except ImportError:
-        raise _lacking("a VTK file", "meshio") from None
+        raise _absent("a VTK file", "meshio") from None
     starts = np.cumsum([0, *(len(shell.points) for shell in shells)])
     triangles = np.concatenate([shell.triangles + start for shell, start in zip(shells, starts)])
     counts = [len(shell.triangles) for shell in shells]
@@ -92,7 +93,7 @@ def _write_vtk(shells: Sequence[Shell], place: str) -> None:
 
 
 def _write_obj(shells: Sequence[Shell], place: str) -> None:
-    """An object for each pit, whose corners count on from those of the pits before."""
+    """Writes an object for each pit, whose corners continue the numbers of the pits before."""
     start = 1
     with outputs.opened(place, "OBJ file") as file:
         file.write(b"# pit-tools shell\n")
@@ -104,9 +105,10 @@ def _write_obj(shells: Sequence[Shell], place: str) -> None:
 
 
 def _lines(letter: bytes, table: np.ndarray, decimals: int) -> Iterator[bytes]:
-    """The rows of a table of integers with so many decimals, a letter before each."""
-    for piece in lines_of([(table[:, at], decimals) for at in range(3)]):
-        yield b"".join(letter + b" " + line for line in piece.splitlines(True))
+    """Returns the rows of a table of integers with the given number of decimals, a letter before
+    each."""
+    for chunk in lines_of([(table[:, at], decimals) for at in range(3)]):
+        yield b"".join(letter + b" " + line for line in chunk.splitlines(True))
 
 
 WRITERS: dict[str, Writer] = {".dxf": _write_dxf, ".vtk": _write_vtk, ".obj": _write_obj}

@@ -11,7 +11,7 @@ from pit_tools.instances.arrays import Blocks
 from pit_tools.plans.file import Grid
 from pit_tools.plans.grids import Frame
 
-#: Places of a pit's box up to which it is held whole, a byte for each.
+#: The number of cells of a pit's box up to which it is stored completely, a byte for each.
 MOST_PLACES = 1 << 28
 
 #: The corners of a face towards each axis, x, y and z, as steps along x, y and z: they run
@@ -26,7 +26,7 @@ class Shell:
     """The surface of a pit. The corners of a triangle run counterclockwise, seen from outside.
 
     `crossings` is the number of edges at which four faces meet, where blocks of the pit touch along
-    an edge alone: a package may not take the surface there for that of a solid.
+    an edge only: a package may not accept the surface there as that of a solid.
     """
 
     name: str
@@ -36,7 +36,7 @@ class Shell:
 
     @property
     def volume(self) -> float:
-        """What the surface encloses, in cubes of the export's unit."""
+        """Returns the enclosed volume, in cubes of the export's unit."""
         near = self.points - self.points[0]
         first, second, third = (near[self.triangles[:, at]] for at in range(3))
         return float(np.einsum("ij,ij->i", first, np.cross(second, third)).sum() / 6)
@@ -49,10 +49,10 @@ class Shell:
 
 def shell_of(name: str, grid: Grid, blocks: Blocks, in_pit: np.ndarray,
              frame: Frame = Frame()) -> Shell:
-    """The surface of a pit, bool (n,): all faces between a block of it and what is none, in the
-    coordinates of the export.
+    """Returns the surface of a pit, bool (n,): all faces between a block of it and its outside, in
+    the coordinates of the export.
 
-    Raises UserError for a pit without a block, and where its blocks lie too far apart.
+    Raises UserError for a pit without a block, and if its blocks are too far apart.
     """
     if not in_pit.any():
         raise UserError(f"{name}: the pit has no block, and so no surface")
@@ -60,26 +60,26 @@ def shell_of(name: str, grid: Grid, blocks: Blocks, in_pit: np.ndarray,
     places = np.stack(indices, axis=1).astype(np.int64)
     least = places.min(axis=0)
     corners = _corners_of_faces(places - least).reshape(-1, 3)
-    room = tuple((corners.max(axis=0) + 1).tolist())
-    keys = np.ravel_multi_index(tuple(corners.T), room)
+    shape = tuple((corners.max(axis=0) + 1).tolist())
+    keys = np.ravel_multi_index(tuple(corners.T), shape)
     numbers, at = np.unique(keys, return_inverse=True)
     squares = at.reshape(-1, 4)
-    points = frame.own(_metres(grid, np.stack(np.unravel_index(numbers, room), axis=1) + least))
+    points = frame.own(_metres(grid, np.stack(np.unravel_index(numbers, shape), axis=1) + least))
     triangles = squares[:, [0, 1, 2, 0, 2, 3]].reshape(-1, 3)
     return Shell(name, points, triangles, _crossings(squares))
 
 
 def outer_faces(places: np.ndarray) -> Iterator[tuple[int, int, np.ndarray]]:
-    """The faces of blocks at places from 0, (n, 3), with none beside them: for each axis and each
-    way along it, 1 or -1, the places of the blocks that have one there, (f, 3).
+    """Returns the outer faces of blocks at cells from 0, (n, 3): for each axis and each direction
+    along it, 1 or -1, the cells of the blocks that have one there, (f, 3).
 
-    Raises UserError if the places lie too far apart.
+    Raises UserError if the cells are too far apart.
     """
     shape = places.max(axis=0) + 3
     box = int(np.prod(shape, dtype=object))
     if box > MOST_PLACES:
-        raise UserError(f"the blocks of the pit lie in a box of {box:,} places, and "
-                        f"{MOST_PLACES:,} is the most")
+        raise UserError(f"the blocks of the pit are in a box of {box:,} cells, more than "
+                        f"{MOST_PLACES:,}")
     is_there = np.zeros(shape, dtype=bool)
     is_there[tuple((places + 1).T)] = True
     for axis in range(3):

@@ -1,1 +1,2 @@
-"""Plans of `pitc` and their zone files: from words, slopes and walls, varied, read and written."""
+"""Plans of `pitc` and their zone files: from words, with slopes and walls, varied, read and
+written."""

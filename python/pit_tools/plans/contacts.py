@@ -1,5 +1,5 @@
-"""Where a flatter zone meets a steeper one: slopes and K are those of the lower block, so a
-flat cone continues through steep rock."""
+"""Where a flatter zone meets a steeper one: slopes and K come from the lower block, so a flat cone
+continues through steep rock."""
 from __future__ import annotations
 
 from dataclasses import dataclass, field
@@ -19,24 +19,24 @@ SIDES = (("east", 0, 1), ("west", 0, -1), ("north", 1, 1), ("south", 1, -1))
 class Contacts:
     """Contacts of zones with steeper ones, all by numbers of zones.
 
-    `begins` has, of a zone below steeper rock, how many benches up that begins at the least;
-    `below`, of a zone and a steeper one above it, how many blocks of the first are fewer than K
-    benches below the second; `beside`, of such pairs, how many blocks have a cone whose edge goes,
-    on a side where the second is steeper, into the second, and not straight above."""
+    `begins` has, for a zone below steeper rock, the smallest number of benches up to that; `below`,
+    for a zone and a steeper one above it, the number of blocks of the first that are fewer than K
+    benches below the second; `adjacent`, for such pairs, the number of blocks with a cone whose
+    edge extends, on a side where the second is steeper, into the second, and not straight above."""
 
     begins: dict[int, int] = field(default_factory=dict)
     below: dict[tuple[int, int], int] = field(default_factory=dict)
-    beside: dict[tuple[int, int], int] = field(default_factory=dict)
+    adjacent: dict[tuple[int, int], int] = field(default_factory=dict)
 
 
 def differ(zones: Sequence[Zone]) -> bool:
-    """Whether any zone is steeper than another on a side."""
+    """Returns whether any zone is steeper than another on a side."""
     return len({zone.slopes for zone in zones}) > 1
 
 
 def contacts_of(blocks: Blocks, zones: Sequence[Zone], size: tuple[int, int, int],
                 places: Places) -> Contacts:
-    """The contacts of these blocks; `size` is that of a block in millimetres."""
+    """Returns the contacts of these blocks; `size` is a block's size in millimetres."""
     found = Contacts()
     for zone, one in enumerate(zones):
         others = _steeper(zones, zone, range(4))
@@ -44,10 +44,10 @@ def contacts_of(blocks: Blocks, zones: Sequence[Zone], size: tuple[int, int, int
         if not others or not len(ids):
             continue
         _look_above(found, blocks, places, zone, one, ids, others)
-        # The highest bench of a cone that ends at steeper rock lies in that, and should.
+        # The highest bench of a cone that ends at steeper rock is in that, and should be.
         benches = one.benches - 1 if found.begins.get(zone) == one.benches else one.benches
         for other, taken in _beside(blocks, zones, size, places, zone, ids, benches).items():
-            found.beside[zone, other] = int(taken.sum())
+            found.adjacent[zone, other] = int(taken.sum())
     return found
 
 
@@ -63,7 +63,7 @@ def _look_above(found: Contacts, blocks: Blocks, places: Places, zone: int, one:
     """Counts the blocks of a zone with steeper rock straight above, up to K benches."""
     seen = {other: np.zeros(len(ids), dtype=bool) for other in others}
     for dz in range(1, one.benches + 1):
-        above = places.beside(ids, 0, 0, dz)
+        above = places.shifted(ids, 0, 0, dz)
         zones = np.where(above >= 0, blocks.zone[above], -1)
         if zone not in found.begins and np.isin(zones, others).any():
             found.begins[zone] = dz
@@ -75,8 +75,8 @@ def _look_above(found: Contacts, blocks: Blocks, places: Places, zone: int, one:
 
 def _beside(blocks: Blocks, zones: Sequence[Zone], size: tuple[int, int, int], places: Places,
             zone: int, ids: np.ndarray, benches: int) -> dict[int, np.ndarray]:
-    """Of each steeper zone which of these blocks have a cone whose edge goes into it, up to so many
-    benches."""
+    """Returns for each steeper zone which of these blocks have a cone whose edge extends into it,
+    up to `benches`."""
     seen: dict[int, np.ndarray] = {}
     for side, (_, axis, way) in enumerate(SIDES):
         others = _steeper(zones, zone, [side])
@@ -84,7 +84,7 @@ def _beside(blocks: Blocks, zones: Sequence[Zone], size: tuple[int, int, int], p
             far = way * reach_along(size, zones[zone], dz)[side]
             if not far or abs(far) >= places.shape[axis]:
                 continue
-            there = places.beside(ids, *((far, 0, dz) if axis == 0 else (0, far, dz)))
+            there = places.shifted(ids, *((far, 0, dz) if axis == 0 else (0, far, dz)))
             met = np.where(there >= 0, blocks.zone[there], -1)
             for other in others:
                 is_met = met == other

@@ -1,6 +1,6 @@
 """Reads and writes a plan of `pitc` (docs/formats.md): decimals exact, in the units of the plan.
 
-`read_plan` refuses what `pitc` refuses, with the same record and kind."""
+`read_plan` rejects what `pitc` rejects, with the same record and kind."""
 from __future__ import annotations
 
 import csv
@@ -9,7 +9,7 @@ from dataclasses import dataclass, field
 from decimal import Decimal
 from typing import Optional, Sequence, Tuple
 
-from pit_tools.errors import UserError
+from pit_tools.errors import UserError, quoted
 from pit_tools.files import inputs
 from pit_tools.texts.decimals import MOST_DIGITS, plain
 from pit_tools.texts.formats import (MOST_DESTINATIONS, MOST_PERIODS, MOST_PLAN_BYTES,
@@ -71,7 +71,7 @@ class Zone:
     benches: int
 
     def __str__(self) -> str:
-        """The slopes as they are reported: one where all sides have the same."""
+        """Returns the slopes as they are reported: one if all sides have the same."""
         if len(set(self.slopes)) == 1:
             return str(self.slopes[0])
         return ", ".join(f"{side} {slope}" for side, slope in zip(SIDES, self.slopes))
@@ -79,9 +79,10 @@ class Zone:
 
 @dataclass(frozen=True)
 class Destination:
-    """Where rock goes. `kind` is mill, leach or dump; price is cents a kilogram of metal (0 for a
-    dump), cost cents a tonne of rock; bands are pairs of the grade, in g/t, at which one begins,
-    and the recovery from there on, per mille. A mill has one band from 0; a dump has none."""
+    """The destination of rock. `kind` is mill, leach or dump; price is cents per kilogram of metal
+    (0 for a dump), cost cents per tonne of rock; bands are pairs of the grade, in g/t, at which one
+    begins, and the recovery from there on, per mille. A mill has one band from 0; a dump has
+    none."""
 
     kind: str
     name: str
@@ -95,8 +96,8 @@ class Destination:
 
     @property
     def break_even(self) -> Optional[float]:
-        """The smallest grade, in g/t, at which a tonne is worth 0 or more here; None if none
-        is."""
+        """Returns the smallest grade, in g/t, at which a tonne is worth 0 or more here; None if
+        there is none."""
         ends = [start for start, _ in self.bands[1:]] + [Decimal("Infinity")]
         for (start, share), end in zip(self.bands, ends):
             if share and self.price:
@@ -140,7 +141,7 @@ class Plan:
     limits: tuple[Limit, ...] = field(default=())
 
     def limits_of(self, resource: int, period: int) -> Optional[Limit]:
-        """The limit of a resource in a period, or None."""
+        """Returns the limit of a resource in a period, or None."""
         wanted = (resource, period)
         return next((limit for limit in self.limits if (limit.resource, limit.period) == wanted),
                     None)
@@ -184,17 +185,17 @@ def destination_record(one: Destination) -> list[str]:
 
 
 class PlanError(UserError):
-    """A plan that `pitc` refuses too: `kind` is the word that pitc has for it, and `row` the number
-    of the record, counted from 1."""
+    """A plan that `pitc` also rejects: `kind` is pitc's name for the error, and `row` the number of
+    the record, counted from 1."""
 
-    def __init__(self, source: str, row: int, kind: str, told: str) -> None:
-        super().__init__(f"{source}: record {row}: {told} ({kind})")
+    def __init__(self, source: str, row: int, kind: str, message: str) -> None:
+        super().__init__(f"{source}: record {row}: {message} ({kind})")
         self.row, self.kind = row, kind
 
 
 @dataclass(frozen=True)
 class _Range:
-    """What a cell of numbers may have: how many decimals, and from where to where."""
+    """The range of a cell of numbers: its decimals, and its ends."""
 
     what: str
     decimals: int
@@ -206,8 +207,8 @@ class _Range:
         return cls(what, decimals, Decimal(least), Decimal(most))
 
     @property
-    def told(self) -> str:
-        return f"{self.what} is from {self.least:,} to {self.most:,}"
+    def message(self) -> str:
+        return f"{self.what} must be from {self.least:,} to {self.most:,}"
 
 
 _ORIGIN = _Range.of("an origin", 3, "-1000000000", "1000000000")
@@ -225,9 +226,9 @@ _MOST_RECORDS, _MOST_ZONES, _MOST_BANDS = 10_000, MOST_ZONE + 1, 16
 
 
 class _Reader:
-    """Takes the records of a plan one after the other, and refuses what `pitc` refuses, in its
-    order: the key, the number of cells, the cells from left to right, what is repeated, falls,
-    or is one too many."""
+    """Reads the records of a plan one after the other, and rejects what `pitc` rejects, in its
+    order: the key, the number of cells, the cells from left to right, repetitions, falls, and more
+    than the allowed number."""
 
     def __init__(self, source: str) -> None:
         self.source, self.row, self.key = source, 0, ""
@@ -238,62 +239,63 @@ class _Reader:
         self.resources: list[Resource] = []
         self.limits: dict[tuple[int, int], Limit] = {}
 
-    def fault(self, kind: str, told: str) -> PlanError:
-        return PlanError(self.source, self.row, kind, told)
+    def fault(self, kind: str, message: str) -> PlanError:
+        return PlanError(self.source, self.row, kind, message)
 
-    def judge(self, holds: bool, kind: str, told: str) -> None:
-        """Refuses the record unless something holds of it."""
+    def judge(self, holds: bool, kind: str, message: str) -> None:
+        """Rejects the record unless a condition holds."""
         if not holds:
-            raise self.fault(kind, told)
+            raise self.fault(kind, message)
 
     def number(self, at: int, within: _Range) -> Decimal:
-        """The decimal of the cell `at`, the key being cell 0: digits with a point, or none."""
+        """Returns the decimal of the cell `at`, the key being cell 0: digits with a point, or
+        none."""
         text = self.cells[at]
-        shown, bare = f"`{text[:60]}`", text[1:] if text[:1] in ("+", "-") else text
-        whole, _, rest = bare.partition(".")
-        self.judge((whole + rest).isdecimal() and text.isascii(), "Number",
-                   f"{shown} is no number, as 12 or -0.5")
-        whole, rest = whole.lstrip("0"), rest.rstrip("0")
+        shown, bare = quoted(text), text[1:] if text[:1] in ("+", "-") else text
+        integer, _, rest = bare.partition(".")
+        self.judge((integer + rest).isdecimal() and text.isascii(), "Number",
+                   f"{shown} is not a number, as 12 or -0.5")
+        integer, rest = integer.lstrip("0"), rest.rstrip("0")
         self.judge(len(rest) <= within.decimals, "TooFine",
-                   f"{shown} has more decimals: {within.what} has {within.decimals} at the most"
-                   if within.decimals else f"{shown} is no whole number")
-        self.judge(len(whole) <= MOST_DIGITS, "Range", f"{shown}: {within.told}")
-        value = Decimal(f"{'-' if text[:1] == '-' else ''}{whole or '0'}.{rest or '0'}")
-        self.judge(within.least <= value <= within.most, "Range", f"{shown}: {within.told}")
+                   f"{shown} has more decimals: {within.what} has at most {within.decimals}"
+                   if within.decimals else f"{shown} is not an integer")
+        self.judge(len(integer) <= MOST_DIGITS, "Range", f"{shown}: {within.message}")
+        value = Decimal(f"{'-' if text[:1] == '-' else ''}{integer or '0'}.{rest or '0'}")
+        self.judge(within.least <= value <= within.most, "Range", f"{shown}: {within.message}")
         return value
 
-    def whole(self, at: int, within: _Range) -> int:
+    def integer(self, at: int, within: _Range) -> int:
         return int(self.number(at, within))
 
     def name(self) -> str:
         """The name in cell 1."""
         self.judge(NAME.fullmatch(self.cells[1]) is not None, "Name",
-                   f"`{self.cells[1][:60]}` is no name: it has {WHAT_A_NAME_IS}")
+                   f"{quoted(self.cells[1])} is not a name: it must have {WHAT_A_NAME_IS}")
         return self.cells[1]
 
     def take(self, record: list[str]) -> None:
-        """Takes a record; the empty ones of spreadsheets are counted and skipped."""
+        """Reads a record; the empty ones of spreadsheets are counted and skipped."""
         self.row += 1
         self.judge(self.row <= _MOST_RECORDS, "TooMany",
-                   f"a plan has {_MOST_RECORDS:,} records at the most")
+                   f"a plan has at most {_MOST_RECORDS:,} records")
         self.cells = [cell.strip(" \t") for cell in record]
         while self.cells and not self.cells[-1]:
             self.cells.pop()
         if not self.cells:
             return
         self.key = self.cells[0].lower() if self.cells[0].isascii() else ""
-        self.judge(self.key in KEYS, "Key", f"`{self.cells[0][:60]}` is no key of a plan")
+        self.judge(self.key in KEYS, "Key", f"{quoted(self.cells[0])} is not a key of a plan")
         getattr(self, "take_" + self.key)()
 
     def width(self, *counts: int) -> None:
-        """Refuses the record unless it has one of these numbers of cells."""
-        told = " or ".join(str(count - 1) for count in counts)
+        """Rejects the record unless it has one of these numbers of cells."""
+        message = " or ".join(str(count - 1) for count in counts)
         self.judge(len(self.cells) in counts, "Width",
-                   f"{len(self.cells) - 1} cells after `{self.key}`, which takes {told}")
+                   f"{len(self.cells) - 1} cells after `{self.key}`, which needs {message}")
 
     def state(self, *values: object) -> None:
-        """Keeps the values of a record that stands once."""
-        self.judge(self.key not in self.once, "Twice", f"`{self.key}` stands twice")
+        """Keeps the values of a record that appears once."""
+        self.judge(self.key not in self.once, "Twice", f"`{self.key}` appears twice")
         self.once[self.key] = list(values)
 
     def take_name(self) -> None:
@@ -305,50 +307,50 @@ class _Reader:
         self.state(*(self.number(at, _ORIGIN if at < 4 else _SIZE) for at in range(1, 7)))
 
     def take_zone(self) -> None:
-        """Takes a record `zone`, of one slope or of four."""
+        """Reads a record `zone`, of one slope or of four."""
         self.judge(len(self.cells) in (4, 10), "Width",
                    "a zone has p, q, K, or p and q of +x, -x, +y and -y, and K")
-        numbers = [self.whole(at, _SLOPE) for at in range(1, len(self.cells) - 1)]
-        benches = self.whole(len(self.cells) - 1, _BENCHES)
+        numbers = [self.integer(at, _SLOPE) for at in range(1, len(self.cells) - 1)]
+        benches = self.integer(len(self.cells) - 1, _BENCHES)
         pairs = [Slope(*numbers[at:at + 2]) for at in range(0, len(numbers), 2)]
         four = pairs * 4 if len(pairs) == 1 else pairs
         self.judge(len(self.zones) < _MOST_ZONES, "TooMany",
-                   f"a plan has {_MOST_ZONES} zones at the most")
+                   f"a plan has at most {_MOST_ZONES} zones")
         self.zones.append(Zone((four[0], four[1], four[2], four[3]), benches))
 
     def keep(self, one: Destination) -> None:
         """Keeps a destination whose name no other one has."""
         self.judge(one.name not in (other.name for other in self.destinations), "Twice",
-                   f"the destination `{one.name}` stands twice")
+                   f"the destination `{one.name}` appears twice")
         starts = [start for start, _ in one.bands]
         self.judge(all(low < high for low, high in zip(starts, starts[1:])), "Order",
                    "the starts of bands do not rise")
         self.judge(len(self.destinations) < MOST_DESTINATIONS, "TooMany",
-                   f"a plan has {MOST_DESTINATIONS} destinations at the most")
+                   f"a plan has at most {MOST_DESTINATIONS} destinations")
         self.judge(len(starts) <= _MOST_BANDS, "TooMany",
-                   f"a leach has {_MOST_BANDS} bands at the most")
+                   f"a leach has at most {_MOST_BANDS} bands")
         self.destinations.append(one)
 
     def take_mill(self) -> None:
         self.width(5)
-        name, bands = self.name(), ((Decimal(0), self.whole(2, _RECOVERY)),)
-        self.keep(Destination("mill", name, self.whole(3, _PRICE), self.whole(4, _COST), bands))
+        name, bands = self.name(), ((Decimal(0), self.integer(2, _RECOVERY)),)
+        self.keep(Destination("mill", name, self.integer(3, _PRICE), self.integer(4, _COST), bands))
 
     def take_leach(self) -> None:
         self.judge(len(self.cells) >= 6 and len(self.cells) % 2 == 0, "Width",
                    "a leach has a name, a price, a cost, and pairs of a start and a recovery")
-        name, price, cost = self.name(), self.whole(2, _PRICE), self.whole(3, _COST)
-        bands = tuple((self.number(at, _START), self.whole(at + 1, _RECOVERY))
+        name, price, cost = self.name(), self.integer(2, _PRICE), self.integer(3, _COST)
+        bands = tuple((self.number(at, _START), self.integer(at + 1, _RECOVERY))
                       for at in range(4, len(self.cells), 2))
         self.keep(Destination("leach", name, price, cost, bands))
 
     def take_dump(self) -> None:
         self.width(3)
-        self.keep(Destination("dump", self.name(), 0, self.whole(2, _COST)))
+        self.keep(Destination("dump", self.name(), 0, self.integer(2, _COST)))
 
     def take_periods(self) -> None:
         self.width(2)
-        self.state(self.whole(1, _PERIODS))
+        self.state(self.integer(1, _PERIODS))
 
     def take_rate(self) -> None:
         self.width(2)
@@ -357,34 +359,34 @@ class _Reader:
     def place_of(self, name: str, among: Sequence) -> int:
         """The place of an earlier destination or resource, by its name."""
         found = [at for at, one in enumerate(among) if one.name == name]
-        self.judge(bool(found), "Name", f"`{name[:64]}` stands in no earlier record")
+        self.judge(bool(found), "Name", f"`{name[:64]}` is in no earlier record")
         return found[0]
 
     def take_resource(self) -> None:
-        """Takes a record `resource`."""
+        """Reads a record `resource`."""
         self.judge(len(self.cells) >= 3, "Width",
                    "a resource has a name, and the destinations that it covers")
         name = self.name()
         covers = tuple(self.place_of(cell, self.destinations) for cell in self.cells[2:])
         self.judge(name not in (other.name for other in self.resources), "Twice",
-                   f"the resource `{name}` stands twice")
+                   f"the resource `{name}` appears twice")
         self.judge(len(set(covers)) == len(covers), "Twice", "a destination is covered twice")
         self.judge(len(self.resources) < MOST_RESOURCES, "TooMany",
-                   f"a plan has {MOST_RESOURCES} resources at the most")
+                   f"a plan has at most {MOST_RESOURCES} resources")
         self.resources.append(Resource(name, covers))
 
     def take_limit(self) -> None:
-        """Takes a record `limit`."""
+        """Reads a record `limit`."""
         self.width(6 if self.cells[3:4] == ["I"] else 5)
         resource = self.place_of(self.cells[1], self.resources)
         last = self.once.get("periods", [0])[0] - 1
-        period = self.whole(2, _Range.of("a period, after the record `periods`,", 0, "0",
-                                         str(last)))
+        period = self.integer(2, _Range.of("a period, after the record `periods`,", 0, "0",
+                                           str(last)))
         letter = self.cells[3]
-        self.judge(letter in ("L", "G", "I"), "Name", f"`{letter[:60]}` is none of L, G and I")
+        self.judge(letter in ("L", "G", "I"), "Name", f"`{letter[:60]}` is not L, G or I")
         ends = [self.number(at, _TONNES) for at in range(4, len(self.cells))]
         self.judge((resource, period) not in self.limits, "Twice",
-                   f"`{self.cells[1]}` has a limit in period {period} already")
+                   f"`{self.cells[1]}` already has a limit in period {period}")
         self.judge(ends[0] <= ends[-1], "Order", "the ends of the limit fall")
         self.limits[resource, period] = Limit(resource, period, letter,
                                               None if letter == "L" else ends[0],
@@ -392,11 +394,11 @@ class _Reader:
 
     def plan(self) -> Plan:
         """The plan, once all records were taken."""
-        lacking = [key for key in ("name", "grid", "periods", "rate") if key not in self.once]
-        lacking += [] if self.zones else ["zone"]
-        lacking += [] if self.destinations else ["mill, leach or dump"]
+        absent = [key for key in ("name", "grid", "periods", "rate") if key not in self.once]
+        absent += [] if self.zones else ["zone"]
+        absent += [] if self.destinations else ["mill, leach or dump"]
         self.row += 1
-        self.judge(not lacking, "Missing", f"the plan ends without a record {', '.join(lacking)}")
+        self.judge(not absent, "Missing", f"the plan ends without a record {', '.join(absent)}")
         return Plan(
             self.once["name"][0], Grid.of(self.once["grid"]), tuple(self.zones),
             tuple(self.destinations), self.once["periods"][0], self.once["rate"][0],
@@ -406,7 +408,7 @@ class _Reader:
 def read_text(path: str) -> str:
     """The text of a plan. Raises UserError if it is longer than any plan, OSError for a file
     that cannot be read."""
-    content = inputs.content_of(path, MOST_PLAN_BYTES, ", and so it is no plan")
+    content = inputs.content_of(path, MOST_PLAN_BYTES, ", so it is not a plan")
     return content.decode("utf-8", "replace").removeprefix("\ufeff")
 
 
@@ -419,7 +421,7 @@ def _taken(text: str, source: str) -> _Reader:
             if record:
                 reader.take(record)
     except csv.Error as error:
-        raise UserError(f"{source}: behind record {reader.row}: {error}") from None
+        raise UserError(f"{source}: after record {reader.row}: {error}") from None
     return reader
 
 
@@ -429,16 +431,16 @@ def plan_of(text: str, source: str = "plan") -> Plan:
 
 
 def read_plan(path: str) -> Plan:
-    """The plan of a file; lengths in metres, money in cents, tonnes and g/t, all exact.
+    """Reads the plan of a file; lengths in metres, money in cents, tonnes and g/t, all exact.
 
-    It raises PlanError for a plan that `pitc` refuses, UserError for one of too many bytes, OSError
+    It raises PlanError for a plan that `pitc` rejects, UserError for one of too many bytes, OSError
     for a file that cannot be read."""
     return plan_of(read_text(path), path)
 
 
 def grid_and_zones(path: str) -> tuple[Grid, tuple[Zone, ...]]:
-    """The `grid` and the `zone` records of a text that may have no others, as what `import`
-    prints. Raises UserError if there is no grid or no zone."""
+    """Returns the `grid` and the `zone` records of a text that may have no others, such as the
+    output of `import`. Raises UserError if there is no grid or no zone."""
     reader = _taken(read_text(path), path)
     if "grid" not in reader.once or not reader.zones:
         raise UserError(f"{path}: the plan has no `grid` or no `zone`")

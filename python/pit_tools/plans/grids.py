@@ -1,4 +1,4 @@
-"""The grid of blocks that rows lie on: its sizes, found or given; turned models; parents of
+"""The grid of blocks on which rows are: its sizes, found or given; turned models; parents of
 sub-blocks.
 
 Coordinates are integers of thousandths of the export's unit of length, int64."""
@@ -16,22 +16,23 @@ from pit_tools.texts.decimals import number_of, in_short
 
 AXES = "xyz"
 
-# How much of a size a row may lie beside its place.
-BESIDE = 0.1
+# How much of a size a row may be off its position.
+OTHER_FILES = 0.1
 
-# No length of a word is greater, in either way: those of a plan are not (docs/formats.md).
+# No length of an option may be larger, in either direction: plans have the same limit
+# (docs/formats.md).
 MOST = 1_000_000_000
 
 
 @dataclass(frozen=True)
 class Axis:
-    """A row of places: the first, their distance, how many there are, and how far rows lie beside
-    at the most, all in thousandths."""
+    """A row of positions: the first, their distance, their number, and how far rows are off it at
+    most, all in thousandths."""
 
     first: int
     step: int
     places: int
-    beside: int
+    offset: int
 
     def centroid(self, index: np.ndarray) -> np.ndarray:
         return self.first + index * self.step
@@ -46,13 +47,13 @@ class Turn:
     about: tuple[float, float]
 
     @classmethod
-    def of_record(cls, told: Optional[dict]) -> Optional[Turn]:
-        """A turn as BASE.json and the note of a plan have it. It raises ValueError, KeyError or
-        TypeError for what is none."""
-        if told is None:
+    def of_record(cls, record: Optional[dict]) -> Optional[Turn]:
+        """Returns a turn from BASE.json or a plan's sidecar file. It raises ValueError, KeyError or
+        TypeError for anything else."""
+        if record is None:
             return None
-        x, y = told["about"]
-        return cls(float(told["angle"]), (float(x), float(y)))
+        x, y = record["about"]
+        return cls(float(record["angle"]), (float(x), float(y)))
 
     def own(self, x: np.ndarray, y: np.ndarray) -> tuple[np.ndarray, np.ndarray]:
         """Coordinates along the model's own axes."""
@@ -68,22 +69,22 @@ class Turn:
 
 @dataclass(frozen=True)
 class Frame:
-    """The coordinates of an export beside those of its plan: how many of the plan's units of length
-    one along x, y and z is, the turn of a turned model, and what the unit is called."""
+    """The frame between the coordinates of an export and its plan: the number of the plan's units
+    of length in one along x, y and z, the turn of a turned model, and the name of the unit."""
 
     lengths: tuple[float, float, float] = (1.0, 1.0, 1.0)
     turn: Optional[Turn] = None
     unit: str = "m"
 
     @classmethod
-    def of_record(cls, told: dict) -> Frame:
-        """A frame as BASE.json and the note of a plan have it. It raises ValueError, KeyError or
-        TypeError for what is none."""
-        x, y, z = map(float, told["lengths"])
-        return cls((x, y, z), Turn.of_record(told["turn"]), str(told["unit"]))
+    def of_record(cls, record: dict) -> Frame:
+        """Returns a frame from BASE.json or a plan's sidecar file. It raises ValueError, KeyError
+        or TypeError for anything else."""
+        x, y, z = map(float, record["lengths"])
+        return cls((x, y, z), Turn.of_record(record["turn"]), str(record["unit"]))
 
     def own(self, points: np.ndarray) -> np.ndarray:
-        """The export's coordinates of points in those of the plan, (m, 3)."""
+        """Returns the plan's coordinates of points in the export's, (m, 3)."""
         found = points / np.array(self.lengths)
         if self.turn is not None:
             found[:, 0], found[:, 1] = self.turn.undone(found[:, 0], found[:, 1])
@@ -98,21 +99,21 @@ def turn_of(x_bearing: Optional[float], y_azimuth: Optional[float],
     return Turn((angle + 180) % 360 - 180, about)
 
 
-def turn_told(turn: Turn) -> str:
-    """Where the model's axes point, as bearings clockwise from north."""
+def turn_text(turn: Turn) -> str:
+    """Returns the directions of the model's axes, as bearings clockwise from north."""
     return f"+x at bearing {(90 - turn.angle) % 360:.6g}, +y at azimuth {-turn.angle % 360:.6g}"
 
 
 def rotation_of(text: str) -> np.ndarray:
-    """The directions of a model's own axes, as columns (3, 3), after turns as `z 40, x 20`: about
-    the model's own axes in this order, in degrees, clockwise seen from the positive end of each.
-    It raises UserError for a text that names none."""
+    """Returns the directions of a model's own axes, as columns (3, 3), after turns as `z 40, x 20`:
+    about the model's own axes in this order, in degrees, clockwise seen from the positive end of
+    each. It raises UserError for a text that names none."""
     found = np.eye(3)
     for turn in text.split(","):
         axis, _, degrees = turn.strip().lower().partition(" ")
         found_degrees = number_of(degrees.strip())
         if axis not in ("x", "y", "z") or found_degrees is None:
-            raise UserError("--rotation: give turns about axes, as 'z 40, x 20', and not "
+            raise UserError("--rotation: give turns about axes, as 'z 40, x 20', not "
                             f"{quoted(text)}")
         angle = math.radians(found_degrees)
         along, across = math.cos(angle), math.sin(angle)
@@ -126,11 +127,10 @@ def rotation_of(text: str) -> np.ndarray:
 
 def axis_of(values: np.ndarray, size: Optional[int], name: str,
             first: Optional[int] = None) -> Axis:
-    """The places that coordinates lie on, of this size or of one that is found.
+    """Returns the positions of the coordinates, of this size or of one that is found.
 
-    A size is found where the coordinates are those of a grid of which nine tenths of the
-    places are taken, also where each lies beside its place by a little. Raises UserError if
-    there is none, and says what the distances are like."""
+    A size is found if the coordinates fill nine tenths of a grid's positions, also if each is
+    slightly off its position. Raises UserError if there is none, and reports the distances."""
     unique = np.unique(values)
     if size is None:
         size = _size_of(unique, name)
@@ -138,11 +138,11 @@ def axis_of(values: np.ndarray, size: Optional[int], name: str,
     index = np.floor_divide(2 * (unique - origin) + size, 2 * size)
     off = np.abs(unique - origin - index * size)
     worst = int(off.argmax())
-    if off[worst] > BESIDE * size:
-        beside = np.abs((unique - values[0] + size // 2) % size - size // 2)
-        worst = int(beside.argmax())
+    if off[worst] > OTHER_FILES * size:
+        offset = np.abs((unique - values[0] + size // 2) % size - size // 2)
+        worst = int(offset.argmax())
         raise UserError(f"{name} {in_short(int(unique[worst]), 3)} is "
-                        f"{in_short(int(beside[worst]), 3)} beside the grid of {in_short(size, 3)} "
+                        f"{in_short(int(offset[worst]), 3)} off the grid of {in_short(size, 3)} "
                         f"through {in_short(int(values[0]), 3)}: another size of blocks, a turned "
                         "model, or sub-blocks (--parents)")
     least = int(index.min())
@@ -155,8 +155,8 @@ def indices(values: np.ndarray, axis: Axis) -> np.ndarray:
 
 
 def _origin_of(unique: np.ndarray, size: int, first: int) -> int:
-    """A place of the grid: that of the first row, or, where rows lie beside the grid through it,
-    the roundest that is as near to them."""
+    """Returns a position of the grid: the first row's, or, if rows are off the grid through it, the
+    roundest that is as near to them."""
     off = (unique - first + size // 2) % size - size // 2
     middle, half = (int(off.min()) + int(off.max())) / 2, (int(off.max()) - int(off.min())) / 2
     if not off.any():
@@ -169,7 +169,7 @@ def _origin_of(unique: np.ndarray, size: int, first: int) -> int:
 
 
 def _size_of(unique: np.ndarray, name: str) -> int:
-    """The distance of places, where coordinates tell it."""
+    """Returns the distance of positions, if coordinates determine it."""
     if len(unique) == 1:
         raise UserError(f"all rows have one {name}: give the size of a block by --size X,Y,Z")
     size = int(np.gcd.reduce(np.diff(unique)))
@@ -179,18 +179,18 @@ def _size_of(unique: np.ndarray, name: str) -> int:
     found = _size_in_noise(unique)
     if found:
         return found
-    raise UserError(f"{name} has {len(unique):,} values, and a grid of {in_short(size, 3)} would "
-                    f"have {places:,} places: sub-blocks (--parents), a turned model (--x-bearing, "
-                    "--y-azimuth), or another size (--size)")
+    raise UserError(f"{name} has {len(unique):,} values, but a grid of {in_short(size, 3)} would "
+                    f"have {places:,} positions: sub-blocks (--parents), a turned model "
+                    "(--x-bearing, --y-azimuth), or another size (--size)")
 
 
 def _size_in_noise(unique: np.ndarray) -> Optional[int]:
-    """The size of a grid beside whose places coordinates lie by little: neighbours are then near
-    one another or about a size apart. It is the roundest that fits as well as any."""
+    """Returns the size of a grid from whose positions coordinates are slightly off: neighbours are
+    then near each other or about a size apart. It is the roundest that fits as well as any."""
     gaps = np.sort(np.diff(unique)).astype(float)
     jump = int(np.argmax(gaps[1:] / gaps[:-1])) if len(gaps) > 1 else 0
     if len(gaps) < 3 or gaps[jump + 1] < 4 * gaps[jump]:
-        # no noise that repeats: each value is a place of its own
+        # no noise that repeats: each value is a separate position
         edge = gaps[0]
     else:
         edge = gaps[jump + 1]
@@ -204,23 +204,24 @@ def _size_in_noise(unique: np.ndarray) -> Optional[int]:
         index = np.rint((centres - centres[0]) / step)
         step = float(np.polyfit(index, centres, 1)[0])
     spread = max(float(np.ptp(group)) for group in groups)
-    beside = float(np.ptp(centres - step * np.rint((centres - centres[0]) / step)))
+    offset = float(np.ptp(centres - step * np.rint((centres - centres[0]) / step)))
     for unit in (1000, 500, 250, 100, 50, 25, 10, 1):
         size = round(step / unit) * unit
         if size < 1 or index.max() + 1 > len(centres) / 0.9:
             continue
         off = (unique - unique[0] + size // 2) % size - size // 2
-        # A size as 25/3 m is not whole in thousandths, and moves off by up to a half at each place.
+        # A size as 25/3 m is not an integer of thousandths, and shifts by up to a half at each
+        # position.
         drift = index.max() / 2 if unit == 1 else 0
-        if (np.ptp(off) <= 1.2 * beside + 2.1 * spread + 1 + drift
-                and np.ptp(off) <= BESIDE * size):
+        if (np.ptp(off) <= 1.2 * offset + 2.1 * spread + 1 + drift
+                and np.ptp(off) <= OTHER_FILES * size):
             return size
     return None
 
 
 def turned_by(x: np.ndarray, y: np.ndarray, z: np.ndarray) -> Optional[float]:
-    """By how many degrees, from 0 to 90, the directions to nearest neighbours of one bench are
-    turned counterclockwise, if they agree; None if they do not, or are along the axes."""
+    """Returns by how many degrees, from 0 to 90, the directions to nearest neighbours of one bench
+    are turned counterclockwise, if they agree; None if they do not, or are along the axes."""
     levels, counts = np.unique(z, return_counts=True)
     on_level = np.flatnonzero(z == levels[counts.argmax()])[:20_000]
     points = np.unique(np.column_stack([x[on_level], y[on_level]]).astype(float), axis=0)
@@ -237,11 +238,11 @@ def turned_by(x: np.ndarray, y: np.ndarray, z: np.ndarray) -> Optional[float]:
 
 
 def parents_of(values: np.ndarray, corner: int, size: int, name: str) -> np.ndarray:
-    """The parent that each sub-block lies in, by the smallest corner of one. It raises
-    UserError for a centroid on a border."""
+    """Returns the parent of each sub-block, by the smallest corner of one. It raises UserError for
+    a centroid on a border."""
     index, rest = np.divmod(values - corner, size)
-    room = max(1, size // 1000)
-    at_border = (rest < room) | (rest > size - room)
+    margin = max(1, size // 1000)
+    at_border = (rest < margin) | (rest > size - margin)
     if at_border.any():
         value = values[np.flatnonzero(at_border)[0]]
         raise UserError(f"{name} {in_short(value, 3)} is on the border of two parents of "
@@ -257,7 +258,7 @@ def thousandths(text: str, what: str) -> list[int]:
     except (ValueError, OverflowError):
         numbers = []
     if len(numbers) != 3:
-        raise UserError(f"{what}: give three numbers, as 20,20,10, and not {quoted(text)}")
+        raise UserError(f"{what}: give three numbers, as 20,20,10, not {quoted(text)}")
     if max(abs(number) for number in numbers) > MOST * 1_000_000:
         raise UserError(f"{what}: {quoted(text)} goes beyond {MOST:,}")
     if any(number % 1000 for number in numbers):
@@ -269,7 +270,7 @@ def sizes_of(text: str, what: str) -> list[int]:
     """Three sizes above 0, in thousandths."""
     sizes = thousandths(text, what)
     if min(sizes) < 1:
-        raise UserError(f"{what}: {quoted(text)}: a size is above 0")
+        raise UserError(f"{what}: {quoted(text)}: a size must be above 0")
     return sizes
 
 
@@ -277,11 +278,11 @@ def counts_of(text: str, what: str) -> list[int]:
     """Three numbers of blocks."""
     sizes = sizes_of(text, what)
     if any(size % 1000 for size in sizes):
-        raise UserError(f"{what}: {quoted(text)}: numbers of blocks are whole")
+        raise UserError(f"{what}: {quoted(text)}: numbers of blocks must be integers")
     return [size // 1000 for size in sizes]
 
 
-def box_told(axes: Sequence[Axis]) -> str:
+def box_text(axes: Sequence[Axis]) -> str:
     """How many blocks there are along each axis, and their sizes."""
     return (" x ".join(f"{axis.places:,}" for axis in axes) + " blocks "
             "of " + " x ".join(in_short(axis.step, 3) for axis in axes))

@@ -1,9 +1,9 @@
-"""The note beside a plan, PLAN.json: what a planner said that the plan's fixed format has no place
-for.
+"""The sidecar file of a plan, PLAN.json: what a planner gave that the plan's fixed format does not
+contain.
 
 `plan` writes it: the currency, the parts of a cent, the unit of grades, the zones by name with
-their files, each record in words, and what `import` told. `survey`, `pit` and `report` tell by it.
-It fits one plan, by the record PLAN.sums of both."""
+their files, each record in words, and the report of `import`. `survey`, `pit` and `report` use it.
+It belongs to one plan, by the record PLAN.sums of both."""
 from __future__ import annotations
 
 import json
@@ -30,10 +30,10 @@ class ZoneSeen:
 
 @dataclass(frozen=True)
 class PlanNote:
-    """`is_used` is false if there is none, and `why_not` says why one that is there is not
-    used; `said` has pairs of a record and what it says; `told`, `doubts`, the `frame` of
-    coordinates, the resource report and `exports`, the sums of what it read, are of `import`;
-    `benches` are those for which slopes were judged, 0 if it is not known."""
+    """`is_used` is false if there is none, and `why_not` is the reason why an existing one is not
+    used; `said` has pairs of a record and its explanation; `told`, `doubts`, the `frame` of
+    coordinates, the resource report and `exports`, the sums of what it read, come from `import`;
+    `benches` is the height for which slopes were judged, 0 if it is unknown."""
 
     is_used: bool = False
     measures: Measures = Measures()
@@ -48,8 +48,8 @@ class PlanNote:
     benches: int = 0
     why_not: str = ""
 
-    def money_told(self, multiple: int, decimals: int = 2) -> str:
-        """A multiple of 10^-decimals of what the plan counts money in, exact where a cent has one
+    def money_text(self, multiple: int, decimals: int = 2) -> str:
+        """Returns a multiple of 10^-decimals of the plan's unit of money, exact if a cent has one
         part, with the currency."""
         sign, whole = "-" if multiple < 0 else "", abs(multiple) // self.measures.parts
         units, rest = divmod(whole, 10**decimals)
@@ -61,46 +61,47 @@ def path_of_note(plan_path: str) -> str:
 
 
 def write_note(note: PlanNote, plan_path: str) -> str:
-    """Writes the note beside the plan, and answers its path."""
+    """Writes the sidecar file of the plan, and returns its path."""
     path = path_of_note(plan_path)
-    told = {"tool": f"pit-tools {VERSION}", **asdict(note), "reconciled": note.reconciled.record()}
-    del told["why_not"], told["is_used"]
+    record = {"tool": f"pit-tools {VERSION}", **asdict(note),
+              "reconciled": note.reconciled.record()}
+    del record["why_not"], record["is_used"]
     with outputs.opened(path, "note of a plan", "utf-8") as file:
-        json.dump(told, file, indent=1, ensure_ascii=False)
+        json.dump(record, file, indent=1, ensure_ascii=False)
         file.write("\n")
     return path
 
 
 def read_note(plan_path: str) -> PlanNote:
-    """The note of a plan, or one that has nothing but, where a note is there and is not used, why
-    not. It raises OSError for the plan."""
+    """Returns the sidecar file of a plan, or one that only has the reason why an existing file is
+    not used. It raises OSError for the plan."""
     path = path_of_note(plan_path)
     if records.status_of(path) is None:
         return PlanNote()
     inputs.reads(path)
     if not _are_of_one_run(plan_path, path):
-        return PlanNote(why_not=f"{path} was written for another plan than {plan_path} is now: "
+        return PlanNote(why_not=f"{path} was written for another plan than {plan_path} now is: "
                         + NOT_TAKEN)
     try:
         return _note_of(records.read_json(path))
     except (OSError, ValueError, KeyError, TypeError, AttributeError, RecursionError, UserError):
-        return PlanNote(why_not=f"{path} is not what `pit-tools plan` writes beside a plan: "
+        return PlanNote(why_not=f"{path} is not a sidecar file of `pit-tools plan`: "
                         + NOT_TAKEN)
 
 
 def _are_of_one_run(*paths: str) -> bool:
-    """Whether a plan and its note are as the record beside them names both."""
+    """Returns whether a plan and its sidecar file agree with the record that names both."""
     record = records.read_record(paths[0] + records.ENDING)
     folder = os.path.dirname(paths[0])
     return record is not None and {records.File.of(path, folder) for path in paths} <= set(
         record.outputs)
 
 
-def _note_of(told: dict) -> PlanNote:
-    said = [(str(first), str(second)) for first, second in told["said"]]
-    notes, exports, lines, doubts = ([str(line) for line in told[name]]
+def _note_of(record: dict) -> PlanNote:
+    said = [(str(first), str(second)) for first, second in record["said"]]
+    notes, exports, lines, doubts = ([str(line) for line in record[name]]
                                      for name in ("notes", "exports", "told", "doubts"))
-    zones = [ZoneSeen(str(zone["name"]), str(zone["file"])) for zone in told["zones"]]
-    return PlanNote(True, Measures(**told["measures"]), zones, said, notes, exports,
-                    lines, doubts, Frame.of_record(told["frame"]),
-                    Reconciled.of_record(told.get("reconciled")), int(told.get("benches", 0)))
+    zones = [ZoneSeen(str(zone["name"]), str(zone["file"])) for zone in record["zones"]]
+    return PlanNote(True, Measures(**record["measures"]), zones, said, notes, exports,
+                    lines, doubts, Frame.of_record(record["frame"]),
+                    Reconciled.of_record(record.get("reconciled")), int(record.get("benches", 0)))

@@ -10,7 +10,7 @@ from typing import Iterator, Sequence
 from pit_tools.errors import UserError, quoted
 from pit_tools.texts.decimals import number_of
 from pit_tools.texts.formats import NAME
-from pit_tools.texts.spelling import shortest
+from pit_tools.texts.number_texts import shortest
 
 #: Cells of a record by name, counted from 0 with the key; -1 is the last one.
 CELLS = {"name": {"name": 1},
@@ -25,9 +25,9 @@ MOST = 1e15
 
 @dataclass(frozen=True)
 class Change:
-    """A cell and the values that it takes: `K`, `price`, `slope`, `rate`, `periods`; or
-    KEY.NAME.CELL, as mill.mill.cost, zone.1.K, limit.crusher.0 (all limits of period 0) or
-    limit.fleet (all of them)."""
+    """A cell and its values: `K`, `price`, `slope`, `rate`, `periods`; or KEY.NAME.CELL, as
+    mill.mill.cost, zone.1.K, limit.crusher.0 (all limits of period 0) or limit.fleet (all of
+    them)."""
 
     cell: str
     values: tuple[str, ...]
@@ -36,7 +36,7 @@ class Change:
     def of(cls, text: str) -> "Change":
         cell, equals, values = text.partition("=")
         if not equals or not values:
-            raise UserError(f"{quoted(text)} is no CELL=VALUE,VALUE")
+            raise UserError(f"{quoted(text)} is not CELL=VALUE,VALUE")
         return cls(cell.strip(), tuple(values.split(";" if cell.startswith("slope") else ",")))
 
 
@@ -51,8 +51,8 @@ def _trimmed(record: list[str]) -> list[str]:
 
 
 def varied(text: str, name: str, settings: Sequence[tuple[str, str]]) -> str:
-    """The text of a plan under another name, with these cells. `x1.1` multiplies a number, and
-    rounds it to what the cell may hold. Raises UserError if no record has such a cell."""
+    """Returns the text of a plan under another name, with these cells. `x1.1` multiplies a number,
+    and rounds it to what the cell may contain. Raises UserError if no record has such a cell."""
     records = [_trimmed(record) for record in records_of(text)]
     for record in records:
         if record and record[0].lower() == "name":
@@ -68,7 +68,7 @@ def varied(text: str, name: str, settings: Sequence[tuple[str, str]]) -> str:
 
 
 def _numbered(records: list[list[str]]) -> Iterator[tuple[int, list[str]]]:
-    """Each record with its number among those of its key, from 0."""
+    """Yields each record with its number among those of its key, from 0."""
     seen: dict[str, int] = {}
     for record in records:
         key = record[0].lower() if record else ""
@@ -106,12 +106,12 @@ def _set(record: list[str], number: int, cell: str, value: str) -> bool:
 
 
 def _value(old: str, value: str) -> str:
-    """A value, or the old one times what follows an x."""
+    """Returns a value, or the old one times the factor after an x."""
     if not value.startswith("x"):
         return value
     before, times = number_of(old), number_of(value[1:])
     if before is None or times is None or abs(before * times) >= MOST:
-        raise UserError(f"{quoted(value)}: {quoted(old)} cannot be multiplied so")
+        raise UserError(f"{quoted(value)}: {quoted(old)} cannot be multiplied by it")
     found = before * times
     return shortest(found) if "." in old else str(round(found))
 

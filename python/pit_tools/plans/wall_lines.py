@@ -1,4 +1,4 @@
-"""What is reported of how steep the walls are that the cones of a plan give."""
+"""A report on how steep the walls are that a plan's cones give."""
 from __future__ import annotations
 
 from dataclasses import dataclass
@@ -8,20 +8,21 @@ import numpy as np
 
 from pit_tools.plans.file import Grid, Zone
 from pit_tools.plans.slopes import judge, too_steep_by_rise
-from pit_tools.plans.walls import (EIGHT, EIGHT_NAMES, MOST_BENCHES, RISES, asked_straight,
+from pit_tools.plans.walls import (EIGHT, EIGHT_NAMES, MOST_BENCHES, RISES, requested_straight,
                                    measured, straight_walls)
 from pit_tools.texts.decimals import plain
 
 SOME_K = (1, 2, 3, 4, 5, 6, 8, 10, 12, 15, 20)
 
-#: Heights of mines for which K is reported where none is given.
+#: Default heights of mines for which K is reported.
 SOME_HEIGHTS = (5, 10, 20, 40)
 
 
 @dataclass(frozen=True)
 class Wanted:
-    """What is asked: the height of the mine in benches and the K of straight walls, or 0; by how
-    many degrees a wall may be too steep; the decimals of degrees; whether two lines a zone do."""
+    """The options of the report: the height of the mine in benches and the K of straight walls, or
+    0; by how many degrees a wall may be too steep; the decimals of degrees; whether two lines per
+    zone are enough."""
 
     benches: int = 0
     K: int = 0
@@ -32,7 +33,7 @@ class Wanted:
 
 def wall_lines(grid: Grid, zones: Sequence[Zone], names: Sequence[str],
                wanted: Wanted) -> Iterator[str]:
-    """The walls of each zone, and the K to take for all together."""
+    """Yields the walls of each zone, and the K to use for all together."""
     yield "blocks of " + " x ".join(plain(size) for size in grid.size) + " m"
     if wanted.is_brief:
         yield from _brief(grid, zones)
@@ -43,7 +44,7 @@ def wall_lines(grid: Grid, zones: Sequence[Zone], names: Sequence[str],
         yield from _by_K_and_rise(grid, zone)
     for benches in [wanted.benches] if wanted.benches else SOME_HEIGHTS:
         judged = judge(grid, zones, names, benches, wanted.within)
-        yield f"\nin a mine of {benches} benches take K = {max(judged.K)}"
+        yield f"\nin a mine of {benches} benches use K = {max(judged.K)}"
         yield from (f"LOOK AT: {line}" for line in judged.look_at)
         yield from (f"NOTE: {line}" for line in judged.notes)
 
@@ -57,7 +58,7 @@ def _pit_of_one_block(grid: Grid, zone: Zone, decimals: int) -> Iterator[str]:
     yield (f"{'the pit of one deep block':26}"
            + "".join(name.rjust(decimals + 5) for name in EIGHT_NAMES)
            + "   too steep       arcs")
-    yield f"{'asked':26}{_degrees(walls.asked, decimals)}"
+    yield f"{'asked':26}{_degrees(walls.requested, decimals)}"
     for K in range(1, MOST_BENCHES + 1):
         own = "  the plan's K" if K == zone.benches else ""
         yield (f"{f'K = {K}':26}{_degrees(walls.given[K], decimals)}{walls.too_steep[K]:12.1f}"
@@ -65,13 +66,13 @@ def _pit_of_one_block(grid: Grid, zone: Zone, decimals: int) -> Iterator[str]:
 
 
 def _straight(grid: Grid, zone: Zone, K: int, decimals: int) -> Iterator[str]:
-    asked, walls = asked_straight(zone), straight_walls(grid, zone, K, 60)
+    requested, walls = requested_straight(zone), straight_walls(grid, zone, K, 60)
     yield f"\n{f'straight walls, K = {K}':26}{' ' * (decimals + 5) * len(EIGHT)}   too steep"
-    yield f"{'asked':26}{_degrees(asked, decimals)}"
+    yield f"{'asked':26}{_degrees(requested, decimals)}"
     for benches in RISES:
         given = walls[benches - 1]
         yield (f"{f'{benches} benches up':26}{_degrees(given, decimals)}"
-               f"{max(0.0, (given - asked).max()):12.1f}")
+               f"{max(0.0, (given - requested).max()):12.1f}")
 
 
 def _by_K_and_rise(grid: Grid, zone: Zone) -> Iterator[str]:

@@ -1,14 +1,13 @@
-"""How steep the walls are that the cones of a zone give, beside the slopes that it asks for.
+"""How steep the walls are that a zone's cones give, compared with the slopes that it requests.
 
 Bearings are those of the model: north is +y, east is +x; angles are degrees.
 
-- The slope asked in a bearing u is atan |(ux p/q, uy p/q)|, each p : q being that of its side.
-- The slope given is atan(Sz / r), where r metres is how far the convex hull of 0 and the points
-  (dx Sx, dy Sy) / dz of the cone's blocks reaches in that bearing: the wall of the pit of one deep
-  block.
-- A straight wall that rises b benches, from a block to one b benches above it, lies where the
-  outermost blocks of that pit do. Blocks are whole, so low walls are steeper, whatever K is. It is
-  asked at atan(1 / |(ux q/p, uy q/p)|).
+- The slope requested in a bearing u is atan |(ux p/q, uy p/q)|, each p : q from its side. - The
+slope obtained is atan(Sz / r), where r metres is how far the convex hull of 0 and the points (dx
+Sx, dy Sy) / dz of the cone's blocks reaches in that bearing: the wall of the pit of one deep block.
+- A straight wall that rises b benches, from a block to one b benches above it, is where the
+outermost blocks of that pit are. Blocks are not split, so low walls are steeper, with any K. It is
+requested at atan(1 / |(ux q/p, uy q/p)|).
 """
 from __future__ import annotations
 
@@ -28,10 +27,10 @@ MOST_BENCHES = 20
 #: The rises of the walls that are reported, in benches.
 RISES = (3, 4, 5, 6, 8, 10, 12, 15, 20, 30, 40, 60)
 
-#: Bearings in whole degrees.
+#: Bearings in integer degrees.
 BEARINGS = np.arange(360)
 
-#: What is reported of: N, NE, E, SE, S, SW, W, NW.
+#: The bearings of the report: N, NE, E, SE, S, SW, W, NW.
 EIGHT = np.arange(0, 360, 45)
 
 EIGHT_NAMES = ("N", "NE", "E", "SE", "S", "SW", "W", "NW")
@@ -46,27 +45,27 @@ def _directions(bearings: np.ndarray) -> tuple[np.ndarray, np.ndarray]:
 
 
 def _tangents(zone: Zone, east: np.ndarray, north: np.ndarray) -> tuple[np.ndarray, np.ndarray]:
-    """The rise over run of the side of x and of y, for each direction."""
+    """Returns the rise over run of the side of x and of y, for each direction."""
     plus_x, minus_x, plus_y, minus_y = (slope.tangent for slope in zone.slopes)
     return np.where(east < 0, minus_x, plus_x), np.where(north < 0, minus_y, plus_y)
 
 
-def asked(zone: Zone, bearings: np.ndarray = BEARINGS) -> np.ndarray:
-    """The slopes asked of a pit of one deep block, degrees."""
+def requested(zone: Zone, bearings: np.ndarray = BEARINGS) -> np.ndarray:
+    """Returns the slopes requested for a pit of one deep block, degrees."""
     east, north = _directions(bearings)
     along, across = _tangents(zone, east, north)
     return np.degrees(np.arctan(np.hypot(east * along, north * across)))
 
 
-def asked_straight(zone: Zone, bearings: np.ndarray = BEARINGS) -> np.ndarray:
-    """The slopes asked of a long straight wall, degrees."""
+def requested_straight(zone: Zone, bearings: np.ndarray = BEARINGS) -> np.ndarray:
+    """Returns the slopes requested for a long straight wall, degrees."""
     east, north = _directions(bearings)
     along, across = _tangents(zone, east, north)
     return np.degrees(np.arctan(1 / np.hypot(east / along, north / across)))
 
 
 def edge_of(size: tuple[int, int, int], zone: Zone, dz: int) -> np.ndarray:
-    """The outermost blocks of a cone so many benches up: rows dx, dy."""
+    """Returns the outermost blocks of a cone `benches` up: rows dx, dy."""
     rows = []
     sx, sy, sz = size
     east, west, north, south = zone.slopes
@@ -74,8 +73,8 @@ def edge_of(size: tuple[int, int, int], zone: Zone, dz: int) -> np.ndarray:
     for dy in range(-down, up + 1):
         side = north if dy > 0 else south
         for way, one in ((1, east), (-1, west)):
-            room = (dz * sz * one.run * side.run) ** 2 - (dy * sy * side.rise * one.run) ** 2
-            rows.append((way * (isqrt(room) // (sx * one.rise * side.run)), dy))
+            squared = (dz * sz * one.run * side.run) ** 2 - (dy * sy * side.rise * one.run) ** 2
+            rows.append((way * (isqrt(squared) // (sx * one.rise * side.run)), dy))
     return np.array(rows, dtype=float)
 
 
@@ -121,11 +120,11 @@ def _reach(corners: np.ndarray, bearings: np.ndarray) -> np.ndarray:
 
 @dataclass(frozen=True)
 class Walls:
-    """What a zone asks and what its cones give, for each K from 1 to 20; index 0 of lists
-    means none."""
+    """The slopes that a zone requests and those that its cones give, for each K from 1 to 20; index
+    0 of lists means none."""
 
     zone: Zone
-    asked: np.ndarray  #: (360,)
+    requested: np.ndarray  #: (360,)
     given: list[np.ndarray]  #: by K, (360,)
     arcs: list[int]  #: by K, the predecessors of a block with rock all about
     too_steep: list[float] = field(default_factory=list)  #: by K, in the worst bearing
@@ -133,9 +132,10 @@ class Walls:
 
 @lru_cache(256)
 def measured(grid: Grid, zone: Zone) -> Walls:
-    """The walls of a zone's slopes in a grid, for each K; the zone's own K says nothing here."""
+    """Returns the walls of a zone's slopes in a grid, for each K; the zone's own K does not matter
+    here."""
     size = size_in_millimetres(grid)
-    wanted = asked(zone)
+    wanted = requested(zone)
     points, given, arcs, over = np.zeros((1, 2)), [np.full(360, 90.0)], [0], [90.0]
     for K in range(1, MOST_BENCHES + 1):
         edge = edge_of(size, zone, K) * size[:2] / K
@@ -149,9 +149,9 @@ def measured(grid: Grid, zone: Zone) -> Walls:
 
 @lru_cache(256)
 def straight_walls(grid: Grid, zone: Zone, K: int, benches: int) -> np.ndarray:
-    """How steep straight walls are that rise 1, 2, .. `benches` benches, degrees, (benches, 360):
-    S(h) is the most of S(h - k) + s(k) over k up to K, where s(k) is how far the cone's blocks k
-    benches up reach in a bearing."""
+    """Returns the angles of straight walls that rise 1, 2, .. `benches` benches, degrees, (benches,
+    360): S(h) is the most of S(h - k) + s(k) over k up to K, where s(k) is how far the cone's
+    blocks k benches up reach in a bearing."""
     size = size_in_millimetres(grid)
     directions = np.stack(_directions(BEARINGS))
     steps = [np.zeros(360)]

@@ -11,11 +11,11 @@ import numpy as np
 import pandas as pd
 
 from pit_tools.errors import UserError, quoted
-from pit_tools.exports.source import refuse_pipe, widths_of
+from pit_tools.exports.source import reject_pipe, widths_of
 from pit_tools.files import inputs, outputs
 from pit_tools.texts.decimals import parts_of
-from pit_tools.texts.lines import line_lengths, whole_lines
-from pit_tools.texts.spelling import lines_of
+from pit_tools.texts.lines import line_lengths, complete_lines
+from pit_tools.texts.number_texts import lines_of
 
 # The columns of a zone file, and how many decimals each may have.
 PLACES = {"x": 3, "y": 3, "z": 3, "tonnes": 3, "grade": 6}
@@ -33,12 +33,12 @@ def read_zone_file(path: str) -> pd.DataFrame:
 
     Columns are found by name, in any order and in upper or lower case; others are ignored. It
     raises UserError for a missing column or a cell that is no number, with its row, and OSError."""
-    refuse_pipe(path)
+    reject_pipe(path)
     inputs.reads(path)
     chunks: list[pd.DataFrame] = []
     try:
         _judge_widths(path)
-        # Without a header, a row with more cells than the first is a fault and not an index.
+        # Without a header, a row with more cells than the first is an error and not an index.
         with pd.read_csv(path, dtype=str, header=None, keep_default_na=False, encoding="utf-8-sig",
                          chunksize=CHUNK, compression=None) as reader:
             for table in reader:
@@ -54,7 +54,7 @@ def read_zone_file(path: str) -> pd.DataFrame:
 
 
 def _columns_of(header: pd.Series, path: str) -> dict[str, int]:
-    """Where each column stands, by the cells of the header."""
+    """Returns the position of each column, by the cells of the header."""
     names = [str(name).strip(" \t").lower() for name in header]
     for column in COLUMNS:
         if names.count(column) != 1:
@@ -64,7 +64,7 @@ def _columns_of(header: pd.Series, path: str) -> dict[str, int]:
 
 
 def _judge_widths(path: str) -> None:
-    """Stops at the first row that has fewer cells than the header, whose last ones pandas takes for
+    """Stops at the first row that has fewer cells than the header: pandas reads the last ones as
     empty."""
     width = 0
     with open(path, encoding="utf-8-sig", newline="") as text:
@@ -95,14 +95,14 @@ def read_zone_files(paths: Sequence[str]) -> pd.DataFrame:
 
 
 def write_zone_file(path: str, rows: pd.DataFrame) -> None:
-    """Writes rows, as `read_zone_file` answers them: decimals as their shortest texts."""
+    """Writes rows, as `read_zone_file` returns them: decimals as their shortest texts."""
     with outputs.opened(path, "zone file") as file:
         file.write((",".join(COLUMNS) + "\n").encode())
         append_rows(file, rows)
 
 
 def append_rows(file: IO[bytes], rows: pd.DataFrame) -> None:
-    """Writes rows behind those that stand in a file that is open for bytes."""
+    """Writes rows after those in a file that is open for bytes."""
     if len(rows):
         for lines in lines_of([(rows[name].to_numpy(), places) for name, places in PLACES.items()]):
             file.write(lines.replace(b" ", b","))
@@ -110,5 +110,5 @@ def append_rows(file: IO[bytes], rows: pd.DataFrame) -> None:
 
 def count_lines(path: str) -> int:
     """How many lines a zone file has below its header, blank ones omitted."""
-    refuse_pipe(path)
-    return max(sum(len(line_lengths(piece)) for piece in whole_lines(path)) - 1, 0)
+    reject_pipe(path)
+    return max(sum(len(line_lengths(chunk)) for chunk in complete_lines(path)) - 1, 0)

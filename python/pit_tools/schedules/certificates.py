@@ -1,17 +1,17 @@
-"""Certificates of bounds: what no schedule of a CPIT or a PCPSP is worth more than, with a proof
-that one pass over the instance checks in integers, whatever found it.
+"""Certificates of bounds: an upper bound of every schedule of a CPIT or a PCPSP, with a proof that
+one pass over the instance checks in integers, whatever program found it.
 
 A certificate is a solution of the dual of the relaxation. It has a price from 0 on for each end of
 a limit, and flows from 0 on along arcs in each period, and from a block to itself in the next
-period. With w the share of a block that is mined by the end of a period, and y what of it goes to a
-destination in the period,
+period. With w the share of a block that is mined by the end of a period, and y the share that goes
+to a destination in the period,
 
-- a schedule that keeps its limits is worth at most the sum of (discounted value - uses at their
-  prices) y over blocks, destinations and periods, and of price * limit over limits;
+- a schedule within its limits is worth at most the sum of (discounted value - uses at their prices)
+  y over blocks, destinations and periods, and of price * limit over limits;
 - the sum of y over destinations is w less w of the period before, so the largest factor of a block
   in a period over its destinations replaces all of them;
-- a flow along an arc may be taken from the factor of the block and added to that of the
-  predecessor, whose w is no less; so may a flow from a period to the next one;
+- a flow along an arc may be subtracted from the factor of the block and added to the predecessor's,
+  whose w is no less; so may a flow from a period to the next one;
 - 0 <= w <= 1, so the bound is the sum of the factors above 0.
 
 This is weak duality: any such prices and flows prove a bound. Bienstock and Zuckerberg (2010) price
@@ -41,12 +41,12 @@ from scipy import sparse
 from pit_tools.errors import UserError
 from pit_tools.instances.arrays import Problem
 from pit_tools.texts.formats import MOST_RESOURCES
-from pit_tools.texts.spelling import multiples_of
+from pit_tools.texts.number_texts import multiples_of
 
 #: Bits of a discount, and of a price of the smallest amount that is used.
 DISCOUNT_BITS, PRICE_BITS = 64, 32
 
-#: Below these stay a product, and whatever is added up, so that 64 bits hold it.
+#: Products, and all that is added up, stay below these, so that 64 bits represent it.
 MOST_PRODUCT, MOST = 2**58, 2**62
 
 #: The parts of a certificate that are arrays, and their types.
@@ -60,12 +60,12 @@ _MOST_HEADER, _MOST_BITS = 1 << 22, 256
 
 
 class NotProved(UserError):
-    """A certificate that proves nothing of the instance, or not exactly what it claims."""
+    """A certificate that proves nothing about the instance, or not exactly what it claims."""
 
 
 @dataclass(frozen=True)
 class Certificate:
-    """A bound of a CPIT or a PCPSP, in units, and what proves it."""
+    """A bound of a CPIT or a PCPSP, in units, and its proof."""
 
     kind: str
     bits: int  #: a unit is 2^-bits of the finest decimal of the values
@@ -74,9 +74,9 @@ class Certificate:
     least: tuple[int, ...]  #: that of its lower end
     first: np.ndarray  #: the first period by whose end a block is in the pit, or periods, (n,)
     arcs: list[np.ndarray]  #: of each period: places of arcs in the matrix of precedences
-    flows: list[np.ndarray]  #: what flows there, in units
+    flows: list[np.ndarray]  #: the flow there, in units
     later: list[np.ndarray]  #: of each period: blocks with a flow to the next period
-    later_flows: list[np.ndarray]  #: what flows there, in units
+    later_flows: list[np.ndarray]  #: the flow there, in units
     sums: tuple[str, str] = ("", "")  #: SHA-256 of the files of the problem and the precedences
 
     def value(self, problem: Problem) -> Fraction:
@@ -84,7 +84,7 @@ class Certificate:
         return Fraction(self.bound, 10**multiples_of(problem.values)[1] << self.bits)
 
 
-def told(value: Fraction) -> str:
+def bound_text(value: Fraction) -> str:
     """A bound with two decimals, rounded up."""
     hundredths = ceil(value * 100)
     sign, size = "-" if hundredths < 0 else "", abs(hundredths)
@@ -107,7 +107,7 @@ def scaled_up(numbers: np.ndarray, factor: int, shift: int) -> np.ndarray:
 
 
 class Factors:
-    """What a block counts by the end of each period at the prices of a certificate, in units."""
+    """The factor of a block by the end of each period at the prices of a certificate, in units."""
 
     def __init__(self, problem: Problem, bits: int, most: Iterable[int], least: Iterable[int]):
         self.problem, self.bits = problem, bits
@@ -120,7 +120,7 @@ class Factors:
             self.prices[limit.period, limit.resource] += upper - lower
             paid += upper * _exact(limit.most) if upper else 0
             paid -= lower * _exact(limit.least) if lower else 0
-        #: What limits cost that are used up.
+        #: The cost of limits that are fully used.
         self.paid = ceil(paid * 10**decimals / 2**PRICE_BITS)
 
     def _uses(self, amounts: np.ndarray, resource: int) -> tuple[np.ndarray, np.ndarray]:
@@ -136,7 +136,8 @@ class Factors:
         return places, sums
 
     def _mined_in(self, period: int) -> np.ndarray:
-        """What a block counts if it is mined in a period, at its best destination, int64 (n,)."""
+        """Returns the factor of a block that is mined in a period, at its best destination, int64
+        (n,)."""
         problem = self.problem
         if period == problem.periods:
             return np.zeros(len(self.values), dtype=np.int64)
@@ -152,7 +153,7 @@ class Factors:
         return counts.reshape(self.values.shape).max(axis=1)
 
     def by_period(self) -> Iterator[np.ndarray]:
-        """What a block counts if it is mined by the end of each period, int64 (n,)."""
+        """Returns the factor of a block that is mined by the end of each period, int64 (n,)."""
         now = self._mined_in(0)
         for period in range(self.problem.periods):
             after = self._mined_in(period + 1)
@@ -166,11 +167,11 @@ def _exact(number: float) -> Fraction:
 
 
 def evaluated(one: Certificate, problem: Problem, precedence: sparse.csr_matrix) -> tuple[int, int]:
-    """The bound that the prices and flows of a certificate prove, and what its pits are worth at
-    these prices, both in units: they are the same where no flow proves less from these prices.
+    """Returns the bound that the prices and flows of a certificate prove, and what its pits are
+    worth at these prices, both in units: they are equal if no flow proves less from these prices.
 
-    Raises NotProved if the certificate has not the form of one of this instance, or its numbers are
-    too large.
+    Raises NotProved if the certificate does not have the form of one of this instance, or its
+    numbers are too large.
     """
     _judge(one, problem, precedence)
     factors = Factors(problem, one.bits, one.most, one.least)
@@ -194,14 +195,14 @@ def evaluated(one: Certificate, problem: Problem, precedence: sparse.csr_matrix)
 
 
 def _judge(one: Certificate, problem: Problem, precedence: sparse.csr_matrix) -> None:
-    """Raises NotProved for what has not the form of a certificate of this instance."""
+    """Raises NotProved for anything without the form of a certificate of this instance."""
     n, periods = problem.values.shape[0], problem.periods
     lists = (one.arcs, one.flows, one.later, one.later_flows)
-    _hold(one.kind == problem.kind, f"it is one of a {one.kind}")
+    _hold(one.kind == problem.kind, f"it is for a {one.kind}")
     _hold(precedence.shape == (n, n) and one.first.shape == (n,), "it has another number of blocks")
     _hold(all(len(each) == periods for each in lists), "it has another number of periods")
-    _hold(0 <= one.bits <= 62, "its units are none")
-    # Each adds a product below MOST_PRODUCT to what 64 bits hold.
+    _hold(0 <= one.bits <= 62, "its units are missing")
+    # Each adds a product below MOST_PRODUCT to what 64 bits represent.
     _hold(problem.resources <= MOST_RESOURCES, f"it has more than {MOST_RESOURCES} resources")
     _hold(len(one.most) == len(one.least) == len(problem.limits), "it has other limits")
     for limit, upper, lower in zip(problem.limits, one.most, one.least):
@@ -210,15 +211,15 @@ def _judge(one: Certificate, problem: Problem, precedence: sparse.csr_matrix) ->
         _hold(not lower or np.isfinite(limit.least), "a limit without a lower end has a price")
     for period, (arcs, flows, later, later_flows) in enumerate(zip(*lists)):
         _hold(arcs.shape == flows.shape and later.shape == later_flows.shape,
-              "flows and their arcs are not of the same number")
+              "flows and their arcs differ in number")
         _hold(not len(later) or period + 1 < periods, "a flow leaves the last period")
         for where, end in ((arcs, precedence.nnz), (later, n)):
             _hold(bool(((where >= 0) & (where < end)).all()),
-                  "a flow has an arc that is not there")
+                  "a flow has an arc that does not exist")
         _hold(bool((flows >= 0).all() and (later_flows >= 0).all()), "a flow is below 0")
     waiting = np.repeat(one.first, np.diff(precedence.indptr))
     _hold(bool(np.all(waiting >= one.first[precedence.indices])),
-          "its pits lack blocks that others wait for")
+          "its pits miss predecessors of their blocks")
 
 
 def _hold(holds: bool, message: str) -> None:
@@ -228,17 +229,17 @@ def _hold(holds: bool, message: str) -> None:
 
 def check(one: Certificate, problem: Problem, precedence: sparse.csr_matrix,
           sums: Optional[tuple[str, str]] = None) -> Fraction:
-    """The bound that a certificate claims, in units of 100 cents, once it is proved: by its
-    prices and flows for this instance, in integers. The sums are those of the instance's files,
+    """Returns the bound that a certificate claims, in units of 100 cents, after it is proved: by
+    its prices and flows for this instance, in integers. The sums are those of the instance's files,
     if it was read from some.
 
-    Raises NotProved if it is a certificate of other files, or does not prove exactly its bound.
+    Raises NotProved if it is a certificate for other files, or does not prove exactly its bound.
     """
-    _hold(sums is None or sums == one.sums, "its sums are those of other files")
+    _hold(sums is None or sums == one.sums, "its sums are of other files")
     bound, pits = evaluated(one, problem, precedence)
-    _hold(bound == one.bound, f"its prices and flows prove {bound} units, and it claims "
-          f"{one.bound}")
-    _hold(pits == bound, f"its pits are worth {pits} units, and it claims {one.bound}")
+    _hold(bound == one.bound, f"its prices and flows prove {bound} units, but it claims "
+                              f"{one.bound}")
+    _hold(pits == bound, f"its pits are worth {pits} units, but it claims {one.bound}")
     return one.value(problem)
 
 
@@ -262,21 +263,21 @@ def write(certificates: Iterable[Certificate], file: IO[bytes]) -> None:
 
 @contextmanager
 def _opened(path: str) -> Iterator[zipfile.ZipFile]:
-    """A file of certificates. Raises UserError if it is none, or is damaged."""
+    """Reads a file of certificates. Raises UserError for any other or a damaged file."""
     if os.path.exists(path) and not os.path.isfile(path):
         # A device may have no end, and a pipe no beginning.
-        raise UserError(f"{path}: no file of certificates: give the file that --out wrote")
+        raise UserError(f"{path}: not a file of certificates: give the file that --out wrote")
     try:
         with zipfile.ZipFile(path) as archive:
             yield archive
     except (zipfile.BadZipFile, zlib.error, EOFError, ValueError, KeyError, TypeError,
             NotImplementedError, RuntimeError, RecursionError) as error:
-        raise UserError(f"{path}: no file of certificates, or it is damaged or cut short: "
+        raise UserError(f"{path}: not a file of certificates, or it is damaged or cut short: "
                         f"{(str(error).splitlines() or [type(error).__name__])[0]}") from None
 
 
 def kinds_in(path: str) -> list[str]:
-    """The kinds of problems, `cpit` and `pcpsp`, of which a file has certificates.
+    """Returns the kinds of problems, `cpit` and `pcpsp`, for which a file has certificates.
 
     Raises UserError if it has none, is damaged or is cut short; OSError if it cannot be read.
     """
@@ -284,15 +285,16 @@ def kinds_in(path: str) -> list[str]:
         names = archive.namelist()
     kinds = [kind for kind in ("cpit", "pcpsp") if f"{kind.upper()}-header.npy" in names]
     if not kinds:
-        raise UserError(f"{path}: no file of certificates")
+        raise UserError(f"{path}: not a file of certificates")
     return kinds
 
 
 def read(path: str, kind: str, problem: Problem) -> Certificate:
-    """The certificate for a CPIT or a PCPSP in a file, by the kind in letters of either case.
+    """Returns the certificate for a CPIT or a PCPSP in a file, by the kind in letters of either
+    case.
 
-    Raises UserError if the file has none, is damaged or is cut short, or arrays are longer than
-    the problem needs; OSError if it cannot be read.
+    Raises UserError if the file has none, is damaged or is cut short, or arrays are longer than the
+    problem needs; OSError if it cannot be read.
     """
     kind, most = kind.upper(), 2 * len(problem.values) * problem.periods
     with _opened(path) as archive:
@@ -303,17 +305,17 @@ def read(path: str, kind: str, problem: Problem) -> Certificate:
 
 
 def _array(archive: zipfile.ZipFile, name: str, dtype: str, most: int) -> np.ndarray:
-    """An array of at most so many numbers of a type. Raises ValueError if there is another."""
+    """Reads an array of at most `most` numbers of a type. Raises ValueError for any other array."""
     part = archive.getinfo(name)
     if part.file_size > most * np.dtype(dtype).itemsize + 4096:
         raise ValueError(f"{name} is too long")
-    # Other ways have errors of their own for what is damaged.
+    # Other forms raise their own errors for damage.
     if part.compress_type not in (zipfile.ZIP_STORED, zipfile.ZIP_DEFLATED):
-        raise ValueError(f"{name} is packed in another way")
+        raise ValueError(f"{name} is packed in another form")
     file = io.BytesIO(archive.read(name))
     form: Any = np.lib.format
     if form.read_magic(file) != (1, 0):
-        raise ValueError(f"{name} is no array")
+        raise ValueError(f"{name} is not an array")
     shape, _, found = form.read_array_header_1_0(file)
     array = np.frombuffer(file.read(), dtype=dtype)
     if found != np.dtype(dtype) or shape != array.shape:
@@ -322,21 +324,21 @@ def _array(archive: zipfile.ZipFile, name: str, dtype: str, most: int) -> np.nda
 
 
 def _of_parts(kind: str, header: Any, parts: dict[str, np.ndarray]) -> Certificate:
-    """A certificate of its header and arrays. Raises ValueError, KeyError or TypeError if they
-    are none."""
+    """Returns a certificate from its header and arrays. Raises ValueError, KeyError or TypeError
+    for anything else."""
     if header["form"] != _FORM or header["kind"] != kind:
         raise ValueError("another form")
     numbers = [header["bits"], header["bound"], *header["most"], *header["least"],
                *header["arcs"], *header["later"]]
     if any(not isinstance(number, int) or isinstance(number, bool) for number in numbers):
-        raise ValueError("no whole numbers")
+        raise ValueError("not integers")
     if any(number.bit_length() > _MOST_BITS for number in numbers):
         raise ValueError("a number is too large")
     lists = {}
     for name in ("arcs", "flows", "later", "later_flows"):
         lengths = header["later" if name.startswith("later") else "arcs"]
         if min(lengths) < 0 or sum(lengths) != len(parts[name]):
-            raise ValueError(f"{name} are not as many as the header says")
+            raise ValueError(f"{name} differ in number from the header")
         lists[name] = np.split(parts[name], np.cumsum(lengths)[:-1])
     problem, precedence = map(str, header["sums"])
     return Certificate(kind, header["bits"], header["bound"], tuple(header["most"]),

@@ -1,8 +1,8 @@
-"""Runs a step in a process of its own, which is ended when its time is up: solvers look at a limit
-of time seldom, and nothing in the process that waits for one can stop it.
+"""Runs a step in a separate process, which is ended when its time is up: solvers check a time limit
+seldom, and nothing in the process that waits for one can stop it.
 
-The process is a new interpreter. A copy of this one would lack the threads of libraries that have
-started some, as HiGHS does, and would wait for them for ever.
+The process is a new interpreter. A copy of this one would miss the threads that libraries have
+started, as HiGHS does, and would wait for them for ever.
 """
 from __future__ import annotations
 
@@ -21,7 +21,7 @@ from pit_tools.errors import UserError
 
 Made = TypeVar("Made")
 
-# What the new interpreter runs: it finds modules where this one does.
+# The code of the new interpreter: it finds modules in the same folders as this one.
 _CODE = ("import pickle, sys; sys.path[:] = pickle.load(sys.stdin.buffer); "
          "from pit_tools.schedules import ended; ended.run_step()")
 
@@ -29,9 +29,9 @@ _CODE = ("import pickle, sys; sys.path[:] = pickle.load(sys.stdin.buffer); "
 _PR_SET_PDEATHSIG = 1
 
 
-class Beside(Generic[Made]):
-    """A step that runs in a process of its own: a function of a module, or a `functools.partial` of
-    one. What it changes in memory is lost; it gets and returns what can be pickled."""
+class Background(Generic[Made]):
+    """A step that runs in a separate process: a function of a module, or a `functools.partial` of
+    one. Its changes in memory are lost; its arguments and result must allow pickling."""
 
     def __init__(self, step: Callable[[], Made]) -> None:
         content = pickle.dumps(sys.path) + pickle.dumps(step)
@@ -42,7 +42,7 @@ class Beside(Generic[Made]):
         self.writer.start()
 
     def result(self, seconds: Optional[float] = None) -> Optional[Made]:
-        """What the step returns; None if that takes more seconds. Its process is ended.
+        """Returns the step's result; None if it needs more seconds. Its process is ended.
 
         Raises the UserError or MemoryError that the step raises, and UserError if its process ends
         otherwise.
@@ -60,7 +60,7 @@ class Beside(Generic[Made]):
         if content is None:
             return None
         if not content:
-            raise UserError("the solver's process ended without an answer: was memory refused?")
+            raise UserError("the solver's process ended without a result: did memory run out?")
         found, error = pickle.loads(content)
         if error is not None:
             raise error
@@ -68,12 +68,12 @@ class Beside(Generic[Made]):
 
 
 def within(step: Callable[[], Made], seconds: Optional[float] = None) -> Optional[Made]:
-    """What a step returns in so many seconds, as `Beside.result` says."""
-    return Beside(step).result(seconds)
+    """Returns a step's result within `seconds`, as `Background.result` does."""
+    return Background(step).result(seconds)
 
 
 def _give(pipe: Optional[BinaryIO], content: bytes) -> None:
-    """Writes what the child is to do. A child that has ended needs it no more."""
+    """Writes the child's task. A child that has ended needs it no more."""
     assert pipe is not None
     try:
         with pipe:
@@ -83,12 +83,12 @@ def _give(pipe: Optional[BinaryIO], content: bytes) -> None:
 
 
 def run_step() -> None:
-    """Runs, in the child, the step that standard input has, and writes its outcome to what standard
-    output was: what libraries print goes to standard error."""
+    """Runs, in the child, the step from standard input, and writes its outcome to the original
+    standard output: output of libraries goes to standard error."""
     if sys.platform == "linux":
         ctypes.CDLL(None).prctl(_PR_SET_PDEATHSIG, signal.SIGKILL)
     signal.signal(signal.SIGINT, signal.SIG_DFL)
-    answer = os.dup(1)
+    result = os.dup(1)
     os.dup2(2, 1)
     step = pickle.load(sys.stdin.buffer)
     outcome: tuple[object, Optional[Exception]]
@@ -96,18 +96,18 @@ def run_step() -> None:
         outcome = (step(), None)
     except (UserError, MemoryError) as error:
         outcome = (None, error)
-    with os.fdopen(answer, "wb") as file:
+    with os.fdopen(result, "wb") as file:
         pickle.dump(outcome, file)
 
 
 def _read_until(reader: int, end: Optional[float]) -> Optional[bytes]:
-    """All bytes of a pipe; None if the time is up before they begin. A pipe holds some of them,
-    and the others follow at once."""
-    pieces: list[bytes] = []
+    """Returns all bytes of a pipe; None if the time is up before they begin. A pipe holds some of
+    them, and the others follow at once."""
+    chunks: list[bytes] = []
     while True:
-        left = None if end is None else max(1.0 if pieces else 0.0, end - time.monotonic())
+        left = None if end is None else max(1.0 if chunks else 0.0, end - time.monotonic())
         if not select.select([reader], [], [], left)[0]:
             return None
-        pieces.append(os.read(reader, 1 << 20))
-        if not pieces[-1]:
-            return b"".join(pieces)
+        chunks.append(os.read(reader, 1 << 20))
+        if not chunks[-1]:
+            return b"".join(chunks)

@@ -1,7 +1,8 @@
-"""Schedules of a CPIT or a PCPSP: their files, what they are worth and use, and whether they hold.
+"""Schedules of a CPIT or a PCPSP: their files, what they are worth and use, and whether they are
+feasible.
 
-A line of a schedule is a block and its period, and for a PCPSP then its destination; behind that
-may stand the share of the block, 1 where none is given.
+A line of a schedule is a block and its period, and for a PCPSP then its destination; the share of
+the block may follow, 1 by default.
 """
 from __future__ import annotations
 
@@ -17,18 +18,18 @@ from scipy import sparse
 from pit_tools.errors import UserError, quoted
 from pit_tools.files import outputs
 from pit_tools.instances.arrays import Limit, Problem, arcs_of
-from pit_tools.texts.decimals import fault_of, floats_of, is_decimal
+from pit_tools.texts.decimals import error_of, floats_of, is_decimal
 from pit_tools.texts.lines import numbered_lines
-from pit_tools.texts.spelling import (Part, float_parts, joined, laid, shortest, spread,
-                                      whole_parts)
+from pit_tools.texts.number_texts import (Part, float_parts, joined, laid, shortest, spread,
+                                          equal_parts)
 
-#: What is off by so much of a block is not counted.
-ROOM = 1e-6
+#: A difference of this share of a block is not counted.
+TOLERANCE = 1e-6
 
-#: Entries of the table of blocks and periods up to which it is held whole.
+#: Entries of the table of blocks and periods up to which it is stored completely.
 MOST_ENTRIES = 1 << 28
 
-#: Lines that a schedule may have, or as many as its problem needs.
+#: The most lines of a schedule, or the number that its problem needs.
 MOST_LINES = 1 << 20
 
 
@@ -49,8 +50,7 @@ class Schedule:
     def of(cls, block: Sequence[int], period: Sequence[int],
            destination: Optional[Sequence[int]] = None,
            share: Optional[Sequence[float]] = None) -> "Schedule":
-        """The schedule of lines (m,): destination 0 and the whole block, where these are not
-        given."""
+        """Returns the schedule of lines (m,): destination 0 and the complete block by default."""
         blocks = np.asarray(block, dtype=np.int64)
         return cls(blocks, np.asarray(period, dtype=np.int64),
                    np.zeros(len(blocks), np.int64) if destination is None
@@ -71,18 +71,18 @@ class Schedule:
         """The share of each block that is mined in each period, (blocks, periods)."""
         if blocks * periods > MOST_ENTRIES:
             raise UserError(f"{blocks:,} blocks in {periods} periods are more than this check "
-                            "holds")
+                            "allows")
         mined = np.zeros((blocks, periods))
         np.add.at(mined, (self.block, self.period), self.share)
         return mined
 
     def worth(self, problem: Problem) -> float:
-        """What it is worth, a value of period t counting 1 / (1 + rate)^t."""
+        """Returns its worth, with a value of period t counting 1 / (1 + rate)^t."""
         return float((self.share * problem.values[self.block, self.destination]
                       * problem.discounts()[self.period]).sum())
 
     def used(self, problem: Problem) -> np.ndarray:
-        """What is used of each resource in each period, (resources, periods)."""
+        """Returns the use of each resource in each period, (resources, periods)."""
         used = np.zeros((problem.resources, problem.periods))
         for resource in range(problem.resources):
             coefficients = (np.asarray(problem.use_matrix(resource)[self.block, self.destination])
@@ -92,8 +92,8 @@ class Schedule:
 
 
 def table_of(path: str, fields: int, most: Optional[int] = None) -> pd.DataFrame:
-    """The fields of a file's lines as texts, `fields` of them and what stands after them; the index
-    is the number of the line. A byte order mark, blank lines and lines of `%` are passed over, as
+    """Returns the fields of a file's lines as texts, `fields` of them and what follows them; the
+    index is the number of the line. A byte order mark, blank lines and lines of `%` are skipped, as
     in the files of an instance.
 
     Raises UserError if there are more than `most` lines."""
@@ -124,34 +124,35 @@ def read_schedule(path: str, problem: Problem) -> Schedule:
     numbers = numbers.apply(lambda column: pd.Series(floats_of(column), column.index)).astype(float)
     what = "block, period, destination and share" if is_pcpsp else "block, period and share"
     bad = ~np.isfinite(numbers).all(axis=1).to_numpy() | (table[fields + 1] != "").to_numpy()
-    _refuse(path, lines, bad, table, f"no {what}")
+    _reject(path, lines, bad, table, f"it is not a {what}")
     columns = [numbers[at].to_numpy(float) for at in range(fields + 1)]
     ends = [len(problem.values), problem.periods, problem.destinations][:fields]
     for name, column, end in zip(("block", "period", "destination"), columns, ends):
-        _refuse(path, lines, (column % 1 != 0) | (column < 0) | (column >= end), table,
+        _reject(path, lines, (column % 1 != 0) | (column < 0) | (column >= end), table,
                 f"no {name} below {end}")
     whole = [column.astype(np.int64) for column in columns[:fields]]
     return Schedule(whole[0], whole[1], whole[2] if is_pcpsp else np.zeros_like(whole[0]),
                     columns[fields])
 
 
-def _refuse(path: str, lines: np.ndarray, bad: np.ndarray, table: pd.DataFrame, told: str) -> None:
+def _reject(path: str, lines: np.ndarray, bad: np.ndarray, table: pd.DataFrame,
+            message: str) -> None:
     if bad.any():
         at = int(np.flatnonzero(bad)[0])
-        raise UserError(f"{path}: line {lines[at]}: {told}: "
+        raise UserError(f"{path}: line {lines[at]}: {message}: "
                         f"{quoted(' '.join(table.iloc[at]).strip())}")
 
 
 def write_schedule(schedule: Schedule, path: str, is_pcpsp: bool) -> None:
-    """Writes a schedule, a line for each of its own; a share stands if it is not 1, and
-    destinations where the problem is a PCPSP.
+    """Writes a schedule, one line for each of its lines; a share is written if it is not 1, and
+    destinations if the problem is a PCPSP.
 
     Raises OSError, with the name, if the file cannot be written.
     """
     count = len(schedule)
-    parts: list[Part] = [*whole_parts(schedule.block), b" ", *whole_parts(schedule.period)]
+    parts: list[Part] = [*equal_parts(schedule.block), b" ", *equal_parts(schedule.period)]
     if is_pcpsp:
-        parts += [b" ", *whole_parts(schedule.destination)]
+        parts += [b" ", *equal_parts(schedule.destination)]
     some = np.flatnonzero(np.abs(schedule.share - 1) >= 1e-9)
     if len(some):
         shares = laid([b" ", *float_parts(schedule.share[some], 9)], len(some))
@@ -160,15 +161,15 @@ def write_schedule(schedule: Schedule, path: str, is_pcpsp: bool) -> None:
         file.write(joined([*parts, b"\n"], count))
 
 
-def limit_told(limit: Limit) -> str:
+def limit_text(limit: Limit) -> str:
     """A limit as its line has it, without resource and period."""
     return f"{limit.letter} {' '.join(map(shortest, limit.ends))}"
 
 
 @dataclass(frozen=True)
 class Check:
-    """What a schedule is worth and uses, and what it breaks: a line of words each. It `holds` if it
-    breaks nothing."""
+    """What a schedule is worth and uses, and what it violates: a line of words each. It `holds` if
+    it violates nothing."""
 
     blocks: float
     worth: float
@@ -182,13 +183,13 @@ class Check:
 
 def check(schedule: Schedule, problem: Problem, precedence: sparse.spmatrix,
           relaxed: bool = False) -> Check:
-    """Whether a schedule holds, of a problem and all its arcs (n, n), a matrix of any format or an
-    array; its worth is in units of 100 cents, discounted. In a CPIT and a PCPSP a block is mined in
-    one period, in a PCPSP at one or more destinations; `relaxed` lets it be split over periods, as
-    in the relaxations.
+    """Checks whether a schedule is feasible, for a problem and all its arcs (n, n), a matrix of any
+    format or an array; its worth is in units of 100 cents, discounted. In a CPIT and a PCPSP a
+    block is mined in one period, in a PCPSP at one or more destinations; `relaxed` lets it be split
+    over periods, as in the relaxations.
 
-    Raises UserError if a line names a block, period or destination that is not there, the arcs
-    are of other blocks, or there are more blocks and periods than it can hold.
+    Raises UserError if a line names a block, period or destination that does not exist, the arcs
+    have other blocks, or there are more blocks and periods than fit in memory.
     """
     arcs = arcs_of(precedence)
     _judge_places(schedule, problem, arcs)
@@ -198,10 +199,10 @@ def check(schedule: Schedule, problem: Problem, precedence: sparse.spmatrix,
 
 
 def _judge_places(schedule: Schedule, problem: Problem, arcs: sparse.csr_matrix) -> None:
-    """Stops at the first line that names what the problem has not."""
+    """Stops at the first line that names what the problem does not have."""
     n = len(problem.values)
     if arcs.shape[0] != n:
-        raise UserError(f"the arcs are of {arcs.shape[0]} blocks, and the problem has {n}")
+        raise UserError(f"the arcs have {arcs.shape[0]} blocks, but the problem has {n}")
     for name, column, end in (("block", schedule.block, n),
                               ("period", schedule.period, problem.periods),
                               ("destination", schedule.destination, problem.destinations)):
@@ -212,40 +213,41 @@ def _judge_places(schedule: Schedule, problem: Problem, arcs: sparse.csr_matrix)
 
 
 def _shares(schedule: Schedule, problem: Problem, relaxed: bool) -> Iterator[str]:
-    """What is wrong with shares: of each line, of all lines of one place, and of each block. A line
-    below 0 is wrong however small it is, since many of them would make room for others."""
+    """Yields violations of shares: of each line, of all lines of one block, period and destination,
+    and of each block. A line below 0 is a violation however small it is, since many of them would
+    allow others."""
     for at in np.flatnonzero(~(schedule.share >= 0)):
         yield f"block {schedule.block[at]} has the share {schedule.share[at]:g}"
     for block, period, destination, share in zip(*schedule.sums(problem)):
-        if share > 1 + ROOM:
+        if share > 1 + TOLERANCE:
             yield (f"block {block} has the share {share:g} in period {period} at destination "
                    f"{destination}")
     mined = schedule.mined(len(problem.values), problem.periods)
     if not relaxed:
-        for block, period in zip(*np.nonzero((mined > ROOM) & (mined < 1 - ROOM))):
+        for block, period in zip(*np.nonzero((mined > TOLERANCE) & (mined < 1 - TOLERANCE))):
             yield f"block {block} is split: {mined[block, period]:g} of it in period {period}"
     total = mined.sum(axis=1)
-    for block in np.flatnonzero(total > 1 + ROOM):
+    for block in np.flatnonzero(total > 1 + TOLERANCE):
         yield f"block {block} is mined {total[block]:g} times"
 
 
 def _order(schedule: Schedule, problem: Problem, precedence: sparse.csr_matrix,
-           piece: int = 1 << 22) -> Iterator[str]:
-    """What is mined before its predecessors, arcs taken a piece at a time."""
+           chunk: int = 1 << 22) -> Iterator[str]:
+    """Yields what is mined before its predecessors, with arcs read in parts."""
     by_end = schedule.mined(len(problem.values), problem.periods).cumsum(axis=1).astype(np.float32)
     starts = precedence.indptr.astype(np.int64)
-    rows_at = np.searchsorted(starts, np.arange(0, starts[-1] + 1, piece), side="right") - 1
+    rows_at = np.searchsorted(starts, np.arange(0, starts[-1] + 1, chunk), side="right") - 1
     bounds = np.unique(np.append(rows_at, len(starts) - 1))
     for first, last in zip(bounds, bounds[1:]):
         lower = np.repeat(np.arange(first, last), np.diff(starts[first:last + 1]))
         upper = precedence.indices[starts[first]:starts[last]]
         for period in range(problem.periods):
-            early = by_end[lower, period] > by_end[upper, period] + 2 * ROOM
+            early = by_end[lower, period] > by_end[upper, period] + 2 * TOLERANCE
             if not early.any():
                 continue
             for at in np.flatnonzero(early):
-                if period == 0 or not by_end[lower[at],
-                                             period - 1] > by_end[upper[at], period - 1] + 2 * ROOM:
+                if period == 0 or not (by_end[lower[at], period - 1]
+                                       > by_end[upper[at], period - 1] + 2 * TOLERANCE):
                     yield f"block {lower[at]} is mined in period {period}, before block {upper[at]}"
 
 
@@ -256,22 +258,22 @@ def _limits(schedule: Schedule, problem: Problem) -> tuple[list[str], list[str]]
     for limit in problem.limits:
         amount = used[limit.resource, limit.period]
         line = (f"resource {limit.resource}, period {limit.period}: {amount:.3f} t of "
-                f"{limit_told(limit)}")
-        room = [1e-6 * max(1, abs(end)) if np.isfinite(end) else 0
-                for end in (limit.least, limit.most)]
-        is_kept = limit.least - room[0] <= amount <= limit.most + room[1]
+                f"{limit_text(limit)}")
+        tolerance = [1e-6 * max(1, abs(end)) if np.isfinite(end) else 0
+                     for end in (limit.least, limit.most)]
+        is_kept = limit.least - tolerance[0] <= amount <= limit.most + tolerance[1]
         (uses if is_kept else broken).append(line)
     return uses, broken
 
 
-# What solvers answer
+# Results of solvers
 
 _VARIABLE = re.compile(r"([wxy])([0-9]{1,9})(?:_([0-9]{1,9}))?(?:_([0-9]{1,9}))?$")
 
 
 def read_variables(path: str) -> dict[tuple, float]:
-    """The variables of a solution of `cbc` or `glpsol --output`, by (letter, numbers..): the
-    first number behind each name. Those that `cbc` omits are 0.
+    """Returns the variables of a solution of `cbc` or `glpsol --output`, by (letter, numbers..):
+    the first number after each name. Variables that `cbc` omits are 0.
 
     Raises UserError if there is none.
     """
@@ -282,7 +284,7 @@ def read_variables(path: str) -> dict[tuple, float]:
             if match := _VARIABLE.match(field):
                 name = (match[1], *(int(part) for part in match.groups()[1:] if part is not None))
             elif name is not None and is_decimal(field):
-                if fault := fault_of(field):
+                if fault := error_of(field):
                     raise UserError(f"{path}: line {number}: {quoted(field)} is {fault}")
                 found.setdefault(name, float(field))
                 name = None
@@ -293,8 +295,8 @@ def read_variables(path: str) -> dict[tuple, float]:
 
 
 def schedule_of_variables(found: dict[tuple, float], problem: Problem) -> Schedule:
-    """The schedule that variables w (mined by the end of a period), x (mined in it) and y
-    (shares at destinations) state. In a CPIT x decides if there is one, else w; in a PCPSP y
+    """Returns the schedule that variables w (mined by the end of a period), x (mined in it) and y
+    (shares at destinations) encode. In a CPIT x decides if there is one, else w; in a PCPSP y
     does."""
     n, periods = len(problem.values), problem.periods
     tables = {"w": np.zeros((n, periods)), "x": np.zeros((n, periods)),
@@ -312,8 +314,8 @@ def schedule_of_variables(found: dict[tuple, float], problem: Problem) -> Schedu
 
 
 def schedule_of_shares(shares: np.ndarray) -> Schedule:
-    """The schedule of shares (blocks, destinations, periods); what is within a millionth of 0 or 1
-    is that."""
-    shares = np.where(np.abs(shares - np.rint(shares)) < ROOM, np.rint(shares), shares)
+    """Returns the schedule of shares (blocks, destinations, periods); a share within a millionth of
+    0 or 1 becomes that."""
+    shares = np.where(np.abs(shares - np.rint(shares)) < TOLERANCE, np.rint(shares), shares)
     block, destination, period = np.nonzero(shares)
     return Schedule(block, period, destination, shares[block, destination, period])

@@ -6,7 +6,7 @@ from typing import IO
 import numpy as np
 from scipy import sparse
 
-from pit_tools.texts.spelling import lines_of, multiples_of
+from pit_tools.texts.number_texts import lines_of, multiples_of
 
 
 def write_flow(values: np.ndarray, precedence: sparse.csr_matrix, file: IO[bytes]) -> None:

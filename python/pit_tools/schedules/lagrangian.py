@@ -1,12 +1,12 @@
-"""Bounds of CPIT and PCPSP at a million blocks: prices of limits, by closures of greatest value.
+"""Bounds of CPIT and PCPSP at a million blocks: prices of limits, by closures of largest value.
 
-Where limits have prices, the relaxation has none left, and is a closure of blocks by the ends of
-periods, which pseudoflow finds (closure.py). The smallest value of all prices is that of the
-relaxation (certificates.py has the reason). Prices are found as Bienstock and Zuckerberg (2010)
-do: blocks that all closures so far take at the same times are one group, and the relaxation of
-groups is a program small enough for HiGHS. Its value is no more than that of the relaxation, its
-prices give the next closure, and that one splits groups, until both values meet. Which
-destination is the best at prices is a pattern; the program mixes the patterns of each period.
+If limits have prices, the relaxation has no limits, and is a closure of blocks by the ends of
+periods, which pseudoflow finds (closure.py). The smallest value over all prices is the relaxation's
+(certificates.py has the reason). Prices are found as Bienstock and Zuckerberg (2010) do: blocks
+that all closures so far take at the same times are one group, and the relaxation of groups is a
+program small enough for HiGHS. Its value is at most the relaxation's, its prices determine the next
+closure, and that one splits groups, until both values meet. Which destination is the best at prices
+is a pattern; the program mixes the patterns of each period.
 """
 from __future__ import annotations
 
@@ -22,7 +22,7 @@ from pit_tools.instances.arrays import Problem, arcs_of
 from pit_tools.pits.closure import closure_of_periods, ultimate_pit
 from pit_tools.schedules import certificates
 from pit_tools.schedules.certificates import PRICE_BITS, Certificate, Factors, NotProved
-from pit_tools.texts.spelling import multiples_of
+from pit_tools.texts.number_texts import multiples_of
 
 #: The share of the value by which bounds from above and below may differ in the end.
 NEAR = 1e-10
@@ -33,10 +33,10 @@ MOST_GROUPS, MOST_PATTERNS, FIRST_PITS = 600, 16, 16
 #: Variables of the program at most, in about: of groups and periods, and of patterns.
 MOST_COLUMNS = 30_000
 
-#: Steps of a search at most, and those that may go by without a smaller bound.
+#: The most steps of a search, and the most without a smaller bound.
 MOST_STEPS, MOST_IDLE = 300, 12
 
-#: What a limit that cannot be met costs, in the value of all blocks above 0.
+#: The cost of a limit that cannot be met, as a multiple of the value of all blocks above 0.
 PENALTY = 100.0
 
 
@@ -71,8 +71,8 @@ class _Model:
         return len(self.discounts)
 
     def within_the_pit(self) -> _Model:
-        """Without the blocks outside of the ultimate pit, if none of them is ever mined in the
-        relaxation: limits are none from below, and no use is below 0."""
+        """Removes the blocks outside the ultimate pit, if none of them is ever mined in the
+        relaxation: no limit is from below, and no use is below 0."""
         if np.isfinite(self.least).any() or (self.uses < 0).any():
             return self
         kept = ultimate_pit(self.values.max(axis=1), self.precedence)
@@ -80,8 +80,8 @@ class _Model:
                        precedence=arcs_of(self.precedence[kept][:, kept]))
 
     def at_prices(self, prices: np.ndarray) -> tuple[np.ndarray, np.ndarray]:
-        """What blocks count if they are mined in a period, (periods, n), and at which destination,
-        at the price of each limit."""
+        """Returns the factors of blocks that are mined in a period, (periods, n), and their
+        destinations, at the price of each limit."""
         counts = np.empty((self.periods, len(self.values)))
         best = np.zeros(counts.shape, dtype=np.uint8)
         for period, discount in enumerate(self.discounts):
@@ -94,15 +94,16 @@ class _Model:
         return counts, best
 
     def paid(self, prices: np.ndarray) -> float:
-        """What limits cost that are used up: the upper end at a price above 0, else the lower."""
+        """Returns the cost of limits that are fully used: the upper end at a price above 0, else
+        the lower."""
         ends = np.where(prices > 0, self.most, self.least)
         return float((prices[prices != 0] * ends[prices != 0]).sum())
 
 
 @dataclass(frozen=True)
 class Found:
-    """The smallest bound of a search, in units of 100 cents, its prices of the limits, and
-    what the bound cannot be less than by any prices: None if that is not known."""
+    """The smallest bound of a search, in units of 100 cents, its prices of the limits, and the
+    lower end of the bound for any prices: None if that is unknown."""
 
     bound: float
     prices: np.ndarray
@@ -122,14 +123,14 @@ class Search:
         self.order = np.zeros(1, dtype=np.int64)
         self.patterns = [[self.model.values.argmax(axis=1).astype(np.uint8)]
                          for _ in range(self.model.periods)]
-        #: What the program counts in.
+        #: The unit of the program.
         self.unit = max(float(self.model.values.max(axis=1, initial=0).sum()),
                         float(np.abs(self.model.values).max(initial=0)), 1e-9)
         self.levels = np.zeros((1, self.model.periods))
         self.best = Found(np.inf, np.zeros(len(self.model.period)), None)
 
     def run(self) -> Found:
-        """Steps until no prices give a smaller bound, or the time is up."""
+        """Runs steps until no prices give a smaller bound, or the time is up."""
         if not len(self.model.values):
             return replace(self.best, bound=0.0)
         self._closure(self.best.prices)
@@ -152,19 +153,18 @@ class Search:
         return below is not None and self.best.bound - below <= NEAR * abs(self.best.bound)
 
     def _step(self) -> bool:
-        """New prices of the groups, and the closure at these prices; whether there may be
-        better."""
-        answer = _Master(self).solve(max(1.0, min(self.end - time.monotonic(), 1e6)))
-        if answer is None:
+        """Returns new prices of the groups, and the closure at these prices; whether there may be
+        better ones."""
+        result = _Master(self).solve(max(1.0, min(self.end - time.monotonic(), 1e6)))
+        if result is None:
             return False
-        prices, value, self.levels = answer
+        prices, value, self.levels = result
         below = self.best.below
         self.best = replace(self.best, below=value if below is None else max(below, value))
         return not self._is_near() and self._closure(prices) and not self._is_near()
 
     def _closure(self, prices: np.ndarray) -> bool:
-        """Takes the closure at prices into account; whether it splits a group or is of a new
-        pattern."""
+        """Adds the closure at prices; returns whether it splits a group or has a new pattern."""
         model = self.model
         counts, best = model.at_prices(prices)
         steps = counts.copy()
@@ -187,9 +187,9 @@ class Search:
         return is_new
 
     def _split(self, first: np.ndarray, end: int) -> bool:
-        """Splits groups by a number from 0 to `end` that does not fall from a block to one that
-        waits for it; whether there are more groups then. Of too many, those are joined that the
-        program mines at the same times."""
+        """Splits groups by a number from 0 to `end` that does not fall from a block to its
+        successors; returns whether there are more groups then. If there are too many, those are
+        joined that the program mines at the same times."""
         before = len(self.order)
         keys, group = np.unique(self.group * (end + 1) + first, return_inverse=True)
         most = min(MOST_GROUPS, MOST_COLUMNS // self.model.periods)
@@ -198,7 +198,7 @@ class Search:
             self.order = -levels.sum(axis=1)
             keys, group = np.unique(joined[self.group] * (end + 1) + first, return_inverse=True)
         self.group = group
-        # By ranks, since the numbers themselves would grow beyond what a float tells apart.
+        # By ranks, since the numbers themselves would grow beyond what floats distinguish.
         order = np.unique(self.order, return_inverse=True)[1]
         self.order = order[keys // (end + 1)] * (end + 1) + keys % (end + 1)
         return len(self.order) != before
@@ -209,8 +209,8 @@ class Search:
         at = np.arange(len(model.values)), model.values.argmax(axis=1)
         value, share = model.values[at], np.zeros(len(model.values))
         for resource, uses in enumerate(model.uses):
-            room = model.most[(model.resource == resource) & np.isfinite(model.most)].sum()
-            share += uses[at] / room if room > 0 else 0.0
+            capacity = model.most[(model.resource == resource) & np.isfinite(model.most)].sum()
+            share += uses[at] / capacity if capacity > 0 else 0.0
         whole = np.ones(len(value), dtype=bool)
         pits = [(~whole, 0.0, 0.0), (whole, value.sum(), share.sum())]
         closed: set[tuple[float, float]] = set()
@@ -237,7 +237,7 @@ class Search:
 
 
 def _whole(counts: np.ndarray) -> np.ndarray:
-    """Numbers as whole ones, int64, so fine that 64 bits hold their sum."""
+    """Returns numbers as integers, int64, so fine that 64 bits represent their sum."""
     size = float(np.abs(counts).sum())
     scale = 2.0**min(200, np.floor(58 - np.log2(size))) if size else 1.0
     return np.rint(counts * scale).astype(np.int64)
@@ -259,13 +259,13 @@ class _Master:
         self.arcs = self._arcs(search)
 
     def _add_period(self, period: int, search: Search) -> list[np.ndarray]:
-        """Adds what groups are worth and use in a period by each pattern; the places of these
-        variables, (groups,), or -1 where a pattern is the same as one before for a group."""
+        """Adds the worths and uses of groups in a period for each pattern; returns the places of
+        these variables, (groups,), or -1 for a pattern that equals an earlier one of a group."""
         model = self.model
         known: list[np.ndarray] = []
         places: list[np.ndarray] = []
         at = np.arange(len(search.group))
-        # The newest patterns come first, as far as there is room.
+        # The newest patterns come first, as far as the program has capacity.
         first, *others = search.patterns[period]
         for pattern in (first, *reversed(others)):
             sums = [np.bincount(search.group, part[at, pattern], self.count)
@@ -289,7 +289,7 @@ class _Master:
         return places
 
     def _rows(self, shares: list[list[np.ndarray]]) -> sparse.csr_matrix:
-        """What is mined in a period by all patterns is w less w of the period before."""
+        """Adds rows: what is mined in a period by all patterns is w less w of the period before."""
         parts = []
         for period, places in enumerate(shares):
             row = self.w[period]
@@ -304,7 +304,7 @@ class _Master:
         return sparse.csr_matrix((factor, (row, column)), shape=(rows, self.columns))
 
     def _arcs(self, search: Search) -> sparse.csr_matrix:
-        """A group is mined no more than one that it waits for, by the end of each period."""
+        """Adds rows: a group is mined no more than its predecessor, by the end of each period."""
         arcs = self.model.precedence
         rows = np.repeat(search.group, np.diff(arcs.indptr))
         keys = rows * self.count + search.group[arcs.indices]
@@ -318,8 +318,8 @@ class _Master:
         return self._matrix(parts, row.size)
 
     def solve(self, seconds: float) -> Optional[tuple[np.ndarray, float, np.ndarray]]:
-        """The prices of the limits, what the groups are worth, and w of each group and period;
-        None if HiGHS did not end in time."""
+        """Returns the prices of the limits, the worths of the groups, and w of each group and
+        period; None if HiGHS did not end in time."""
         model, scale = self.model, self.unit
         rows, ends, slack, which = [], [], [], []
         for limit, (least, most) in enumerate(zip(model.least, model.most)):
@@ -360,8 +360,8 @@ class _Master:
 
 
 def _fewer(is_there: np.ndarray, order: np.ndarray) -> tuple[np.ndarray, np.ndarray]:
-    """The arcs among groups, (groups, groups), that no others imply: the groups that wait, and
-    those that they wait for, whose number in `order` is less."""
+    """Returns the arcs among groups, (groups, groups), that no others imply: the groups, and their
+    predecessors, whose number in `order` is less."""
     np.fill_diagonal(is_there, False)
     far = np.zeros_like(is_there)
     kept = []
@@ -380,8 +380,8 @@ def _fewer(is_there: np.ndarray, order: np.ndarray) -> tuple[np.ndarray, np.ndar
 
 def certified(problem: Problem, precedence: sparse.csr_matrix, fewer: sparse.csr_matrix,
               prices: np.ndarray, sums: tuple[str, str] = ("", "")) -> Certificate:
-    """The certificate of the bound that prices of the limits give. `fewer` are the arcs that no
-    others of `precedence` imply.
+    """Returns the certificate of the bound that prices of the limits give. `fewer` are the arcs
+    that no others of `precedence` imply.
 
     Raises NotProved if numbers of the instance are too large.
     """

@@ -7,8 +7,8 @@ import numpy as np
 from scipy import sparse
 
 from pit_tools.schedules.programs import Program
-from pit_tools.texts.spelling import (ROWS, Part, decimal_parts, float_parts, joined, laid,
-                                      rounded, spread, whole_parts)
+from pit_tools.texts.number_texts import (ROWS, Part, decimal_parts, float_parts, joined, laid,
+                                          rounded, spread, equal_parts)
 
 #: Terms of a line: readers have limits for lines.
 WIDTH = 8
@@ -26,11 +26,11 @@ def write_lp(program: Program, file: IO[str]) -> None:
     read.
 
     Raises UserError if a number is infinite or too great for its decimals."""
-    for piece in _pieces(program):
-        file.write(piece.decode("ascii"))
+    for chunk in _chunks(program):
+        file.write(chunk.decode("ascii"))
 
 
-def _pieces(program: Program) -> Iterator[bytes]:
+def _chunks(program: Program) -> Iterator[bytes]:
     names = program.names
     nothing = b"0 " + joined(names.parts(np.zeros(1, np.int64)), 1) if names.count else b""
     yield f"\\ {program.title}\nMaximize\n value:\n".encode("ascii")
@@ -40,7 +40,7 @@ def _pieces(program: Program) -> Iterator[bytes]:
     yield b"Subject To\n"
     yield from _rows(program)
     if names.count and not program.rows.shape[0]:
-        # Readers, as that of glpsol, want a row in the section.
+        # Readers, as that of glpsol, need a row in the section.
         yield b" l0: " + nothing + b" <= 0\n"
     yield b"Bounds\n"
     yield from _named(program, ~program.whole, b" 0 <= ", b" <= 1\n")
@@ -60,7 +60,7 @@ def _named(program: Program, chosen: np.ndarray, first: bytes, last: bytes) -> I
 
 def _terms(program: Program, columns: np.ndarray, factors: np.ndarray, decimals: int,
            new_line: np.ndarray, without_plus: np.ndarray) -> list[Part]:
-    """Terms: a blank, or a new line at these places; a sign, unless it is a plus that is
+    """Encodes terms: a blank, or a new line at these places; a sign, unless it is a plus that is
     omitted, bool (terms,); a factor, unless it is 1; and a name."""
     count = len(factors)
     parts: list[Part] = [b" ", np.where(factors < 0, ord("-"), ord("+")).astype(np.uint8), b" "]
@@ -100,7 +100,8 @@ def _rows(program: Program) -> Iterator[bytes]:
 
 
 def _with_terms(rows: sparse.csr_matrix) -> sparse.csr_matrix:
-    """Rows of which each has a term: no zero, but the first variable where nothing else is."""
+    """Yields rows that each have a term: a zero is omitted, except the first variable of an
+    otherwise empty row."""
     if not rows.data.all():
         rows = rows.copy()
         rows.eliminate_zeros()
@@ -119,7 +120,7 @@ def _lines(program: Program, rows: sparse.csr_matrix, row: np.ndarray,
     begins, counts = rows.indptr[row], rows.indptr[row + 1] - rows.indptr[row]
     ends = np.cumsum(counts, dtype=np.int64)
     starts = ends - counts
-    heads = laid([b" ", _LETTERS[side], *whole_parts(row), b":"], len(row))
+    heads = laid([b" ", _LETTERS[side], *equal_parts(row), b":"], len(row))
     limits = np.where(side == 1, program.lower[row], program.upper[row])
     tails = laid([_RELATIONS[side], *float_parts(limits, SIDES), b"\n"], len(row))
     total = int(ends[-1]) if len(row) else 0

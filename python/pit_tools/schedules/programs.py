@@ -2,9 +2,9 @@
 
 Variables are what is mined of a block by the end of a period, w_b_t, so that an arc is one row of
 two terms in each period; and those of a PCPSP the shares that go to a destination in a period,
-y_b_d_t. In a CPIT and a PCPSP a block is mined in one period: there x_b_t, what is mined of it in a
-period, stands too and is 0 or 1, since limits on x give solvers more cuts than limits on
-differences of w. The relaxations have no x. A UPIT has one variable a block, x_b, which is 0 or 1
+y_b_d_t. In a CPIT and a PCPSP a block is mined in one period: there x_b_t, the share of it mined in
+a period, is a variable too and is 0 or 1, since limits on x give solvers more cuts than limits on
+differences of w. The relaxations have no x. A UPIT has one variable per block, x_b, which is 0 or 1
 by itself.
 """
 from __future__ import annotations
@@ -20,9 +20,9 @@ from pit_tools.errors import UserError
 from pit_tools.instances.arrays import Problem, UltimatePit, arcs_of
 from pit_tools.schedules.ended import within
 from pit_tools.schedules.files import Schedule, schedule_of_shares
-from pit_tools.texts.spelling import Part, joined, laid, spread, whole_parts
+from pit_tools.texts.number_texts import Part, joined, laid, spread, equal_parts
 
-#: What rows say: what is mined by the end of a period, of a block and of one that it waits for;
+#: The meanings of rows: what is mined by the end of a period, of a block and of its predecessor;
 #: what is mined in a period; what goes to destinations; the limits, in their order; and that a
 #: block is mined once.
 ENDS, ARCS, PERIODS, SHARES, LIMITS, ONCE = ROWS = ("ends", "arcs", "periods", "shares", "limits",
@@ -31,8 +31,8 @@ ENDS, ARCS, PERIODS, SHARES, LIMITS, ONCE = ROWS = ("ends", "arcs", "periods", "
 
 @dataclass(frozen=True)
 class Program:
-    """Maximise objective . v, where lower <= rows v <= upper, 0 <= v <= 1, and v is an integer
-    where `whole`. `names.list()` has the names of the variables."""
+    """Maximise objective . v, with lower <= rows v <= upper, 0 <= v <= 1, and v an integer if
+    `whole`. `names.list()` has the names of the variables."""
 
     title: str
     objective: np.ndarray  #: (variables,)
@@ -41,13 +41,13 @@ class Program:
     upper: np.ndarray  #: (rows,), may be inf
     whole: np.ndarray  #: bool (variables,)
     names: "Names"
-    kinds: np.ndarray  #: what each row says, by its place in ROWS, int8 (rows,)
+    kinds: np.ndarray  #: the meaning of each row, by its place in ROWS, int8 (rows,)
 
     def rows_of(self, kind: str) -> np.ndarray:
-        """The places of the rows of a kind: `ends`, `arcs`, `periods`, `shares`, `limits`, in the
-        order of the problem's limits, or `once`.
+        """Returns the places of the rows of a kind: `ends`, `arcs`, `periods`, `shares`, `limits`,
+        in the order of the problem's limits, or `once`.
 
-        Raises ValueError if it is none of these.
+        Raises ValueError for any other kind.
         """
         return np.flatnonzero(self.kinds == ROWS.index(kind))
 
@@ -83,7 +83,8 @@ class Names:
         return self.first_y + (block * self.destinations + destination) * self.periods + period
 
     def mined(self, block: np.ndarray, period: int) -> "list[tuple[np.ndarray, float]]":
-        """The places of what makes up what is mined of blocks in a period, with their signs."""
+        """Returns the places of the variables that make up what is mined of blocks in a period,
+        with their signs."""
         at = block.astype(np.int64) * self.periods + period
         if self.has_x:
             return [(self.first_x + at, 1.0)]
@@ -92,17 +93,17 @@ class Names:
     def parts(self, places: np.ndarray) -> "list[Part]":
         """The names of variables by their places, as parts of lines."""
         if not self.periods:
-            return [b"x", *whole_parts(places)]
+            return [b"x", *equal_parts(places)]
         is_y, is_x = places >= self.first_y, (places >= self.first_x) & (places < self.first_y)
         block, period = np.divmod(places - self.first_y * is_y - self.first_x * is_x, self.periods)
         some = np.flatnonzero(is_y)
         block[some], destination = np.divmod(block[some], max(1, self.destinations))
         letter = np.frombuffer(b"wxy", np.uint8)[is_x + 2 * is_y]
-        parts: "list[Part]" = [letter, *whole_parts(block), b"_"]
+        parts: "list[Part]" = [letter, *equal_parts(block), b"_"]
         if len(some):
-            parts.append(spread(laid([*whole_parts(destination), b"_"], len(some)), some,
+            parts.append(spread(laid([*equal_parts(destination), b"_"], len(some)), some,
                                 len(places)))
-        return [*parts, *whole_parts(period)]
+        return [*parts, *equal_parts(period)]
 
     def list(self) -> "list[str]":
         """The names of all variables, by their places."""
@@ -137,7 +138,7 @@ class _Builder:
     def add(self, kind: str, rows: int,
             entries: Sequence[tuple[np.ndarray, np.ndarray, np.ndarray]], lower: float,
             upper: float) -> None:
-        """Adds so many rows of a kind; the entries' rows count from the first of these."""
+        """Adds `count` rows of a kind; the entries' rows count from the first of these."""
         self.kinds.append(np.full(rows, ROWS.index(kind), np.int8))
         self.parts += [(row + self.count, variable, factor) for row, variable, factor in entries]
         self.lower.append(np.full(rows, lower))
@@ -154,9 +155,9 @@ class _Builder:
 
 def program_of(problem: Problem, precedence: sparse.spmatrix, relaxed: bool = False,
                whole_blocks: bool = False) -> Program:
-    """A CPIT or a PCPSP, with its arcs (n, n), of any format, as a mixed integer program; `relaxed`
-    lets blocks be split over periods, and `whole_blocks` lets no block of a PCPSP be split over
-    destinations. Its value is in units of 100 cents, discounted."""
+    """Returns a CPIT or a PCPSP, with its arcs (n, n), of any format, as a mixed integer program;
+    `relaxed` lets blocks be split over periods, and `whole_blocks` lets no block of a PCPSP be
+    split over destinations. Its value is in units of 100 cents, discounted."""
     n, periods, has_y = len(problem.values), problem.periods, problem.kind == "PCPSP"
     names = Names(n, periods, problem.destinations if has_y else 0, has_x=not relaxed)
     builder, discounts = _Builder(names.count), problem.discounts()
@@ -175,18 +176,18 @@ def program_of(problem: Problem, precedence: sparse.spmatrix, relaxed: bool = Fa
     if has_y:
         _add_shares(builder, names)
     _add_limits(builder, problem, names)
-    is_whole = np.zeros(names.count, dtype=bool)
-    is_whole[names.first_x:names.first_y] = True
-    is_whole[names.first_y:] = whole_blocks and not relaxed
+    is_integer = np.zeros(names.count, dtype=bool)
+    is_integer[names.first_x:names.first_y] = True
+    is_integer[names.first_y:] = whole_blocks and not relaxed
     what = "the relaxed schedule" if relaxed else "the best schedule"
     return Program(f"{what} of {problem.name}, a {problem.kind}", objective, builder.matrix(),
-                   np.concatenate(builder.lower), np.concatenate(builder.upper), is_whole, names,
+                   np.concatenate(builder.lower), np.concatenate(builder.upper), is_integer, names,
                    np.concatenate(builder.kinds))
 
 
 def _add_periods(builder: _Builder, names: Names) -> None:
-    """What is mined by the end of a period is what is mined in it and by the end of the one
-    before."""
+    """Adds rows: what is mined by the end of a period is what is mined in it and by the end of the
+    one before."""
     every = np.arange(names.blocks)
     for period in range(names.periods):
         at = every * names.periods + period
@@ -197,7 +198,7 @@ def _add_periods(builder: _Builder, names: Names) -> None:
 
 
 def _add_ends(builder: _Builder, blocks: int, periods: int) -> None:
-    """What is mined by the end of a period is no more than by the end of the next."""
+    """Adds rows: what is mined by the end of a period is no more than by the end of the next."""
     count = blocks * (periods - 1)
     first = (np.arange(blocks)[:, None] * periods + np.arange(periods - 1)).ravel()
     rows = np.arange(count)
@@ -206,7 +207,7 @@ def _add_ends(builder: _Builder, blocks: int, periods: int) -> None:
 
 
 def _add_arcs(builder: _Builder, precedence: sparse.csr_matrix, periods: int) -> None:
-    """By the end of each period no more of a block is mined than of a predecessor."""
+    """Adds rows: by the end of each period no more of a block is mined than of a predecessor."""
     arcs = precedence.tocoo()
     count = precedence.nnz * periods
     lower, upper = ((part.astype(np.int64)[:, None] * periods + np.arange(periods)).ravel()
@@ -217,7 +218,7 @@ def _add_arcs(builder: _Builder, precedence: sparse.csr_matrix, periods: int) ->
 
 
 def _add_shares(builder: _Builder, names: Names) -> None:
-    """The shares at all destinations are what is mined in the period."""
+    """Adds rows: the shares at all destinations are what is mined in the period."""
     every = np.arange(names.blocks)
     for period in range(names.periods):
         entries = [(every, names.y(every, at, period), np.ones(len(every)))
@@ -242,8 +243,8 @@ def _add_limits(builder: _Builder, problem: Problem, names: Names) -> None:
 
 
 def by_period(program: Program) -> Program:
-    """The same program without w, each being the sum of x up to its period: longer rows, of which
-    some solvers, as cbc, make better cuts. A program without x stays as it is."""
+    """Returns the same program without w, each being the sum of x up to its period: longer rows,
+    from which some solvers, as cbc, make better cuts. A program without x stays unchanged."""
     names = program.names
     if not names.has_x:
         return program
@@ -269,15 +270,15 @@ def by_period(program: Program) -> Program:
 
 # Solving
 
-#: Seconds that HiGHS may take after its time to return what it has found.
+#: Seconds that HiGHS may use after its time to return what it has found.
 GRACE = 2.0
 
 
 @dataclass(frozen=True)
 class Answer:
-    """What HiGHS answered: `status` is `best`, `within the ratio`, `stopped`, or `none`, if
-    there is no solution; `bound` is what no solution is worth more than; `values` are those of
-    the variables, None if none was found."""
+    """The result of HiGHS: `status` is `best`, `within the ratio`, `stopped`, or `none`, if there
+    is no solution; `bound` is an upper bound of every solution; `values` are those of the
+    variables, None if none was found."""
 
     status: str
     value: Optional[float]
@@ -288,15 +289,15 @@ class Answer:
 
 def solve(program: Program, seconds: Optional[float] = None, ratio: float = 0.0,
           bounds: Optional[optimize.Bounds] = None) -> Answer:
-    """Solves a program by scipy's HiGHS, up to a ratio of the best, in at most `seconds` and GRACE:
-    then its process is ended, and nothing is known of what it found. Bounds of the variables may
-    be closer than 0 and 1.
+    """Solves a program by scipy's HiGHS, up to a ratio of the best, in at most `seconds` plus
+    GRACE: then its process is ended, and its findings are lost. Bounds of the variables may be
+    closer than 0 and 1.
 
-    Raises UserError if HiGHS says that the program is unbounded, or ends without an answer.
+    Raises UserError if HiGHS reports that the program is unbounded, or ends without a result.
     """
-    answer = within(partial(_solved, program, seconds, ratio, bounds),
+    result = within(partial(_solved, program, seconds, ratio, bounds),
                     None if seconds is None else seconds + GRACE)
-    return answer or Answer("stopped", None, None, None, "none was found so far")
+    return result or Answer("stopped", None, None, None, "none was found so far")
 
 
 def _solved(program: Program, seconds: Optional[float], ratio: float,
@@ -324,7 +325,7 @@ def _solved(program: Program, seconds: Optional[float], ratio: float,
     return Answer(status, value, bound, found.x, found.message)
 
 
-# The interface has `problem`, though the names of the variables say all.
+# The interface has `problem`, though the names of the variables are enough.
 # pylint: disable-next=unused-argument
 def schedule_of(values: np.ndarray, problem: Problem, names: Names) -> Schedule:
     """The schedule that the variables of `program_of` state, their values being (variables,)."""

@@ -1,10 +1,10 @@
 """A search for good schedules: a start from shells, and better ones by HiGHS in parts of the
 program.
 
-Shells are nested pits: the ultimate pit where each tonne that is mined costs something more. Blocks
-are taken shell by shell, and each into the first period whose limits it keeps. From there all
-blocks but some are held in their periods again and again, and HiGHS places those some; last it
-tries the whole program above what was found, which may give a better schedule, and gives a bound.
+Shells are nested pits: ultimate pits with an additional cost per mined tonne. Blocks are placed
+shell by shell, each in the first period whose limits it meets. From there all blocks except some
+are fixed in their periods repeatedly, and HiGHS places the others; last it solves the complete
+program above what was found, which may give a better schedule, and gives a bound.
 """
 from __future__ import annotations
 
@@ -20,10 +20,10 @@ from pit_tools.pits.closure import ultimate_pit
 from pit_tools.schedules.files import Schedule, check
 from pit_tools.schedules.programs import Program, program_of, schedule_of, solve
 
-#: How much a better schedule is worth more, at the least: a cent.
+#: By how much a better schedule must be worth more: a cent.
 STEP = 0.01
 
-#: What costs of a tonne make the shells, as shares of the one that leaves no block of value.
+#: The costs per tonne of the shells, as shares of the cost at which no block has value.
 SHELLS = 40
 
 #: The seconds of a part at most, and the blocks that the first part places.
@@ -32,8 +32,8 @@ SECONDS_OF_A_PART, BLOCKS_OF_A_PART = 12.0, 60
 
 @dataclass(frozen=True)
 class Found:
-    """The best schedule of a search, None if there is none, what no schedule is worth more
-    than, None if that is not known, and how the schedule was found."""
+    """The best schedule of a search, None if there is none, an upper bound of every schedule, None
+    if that is unknown, and how the schedule was found."""
 
     schedule: Optional[Schedule]
     bound: Optional[float]
@@ -41,8 +41,8 @@ class Found:
 
 
 def shells(tonnes: np.ndarray, values: np.ndarray, precedence: sparse.csr_matrix) -> np.ndarray:
-    """The number of the smallest shell that each block is in, (n,), from 0 for the richest; SHELLS
-    + 1 where it is in none. The largest is the ultimate pit."""
+    """Returns the number of the smallest shell that contains each block, (n,), from 0 for the
+    richest; SHELLS + 1 if none does. The largest is the ultimate pit."""
     dearest = float((values / np.maximum(tonnes, 1)).max(initial=0))
     shell = np.full(len(values), SHELLS + 1)
     for number in range(SHELLS, -1, -1):
@@ -52,8 +52,9 @@ def shells(tonnes: np.ndarray, values: np.ndarray, precedence: sparse.csr_matrix
 
 
 def start_of(problem: Problem, precedence: sparse.spmatrix) -> Found:
-    """A schedule from shells, None if it breaks a lower limit, and the value of the ultimate pit,
-    which no schedule is worth more than. The tonnes of a block are what it uses most of, or 1."""
+    """Returns a schedule from shells, None if it violates a lower limit, and the value of the
+    ultimate pit, an upper bound of every schedule. The tonnes of a block are what it uses most of,
+    or 1."""
     best = problem.values.max(axis=1)
     bound = float(best[ultimate_pit(best, precedence)].sum())
     tonnes = np.zeros(len(best))
@@ -63,10 +64,9 @@ def start_of(problem: Problem, precedence: sparse.spmatrix) -> Found:
 
 
 def from_shells(problem: Problem, tonnes: np.ndarray, precedence: sparse.spmatrix) -> Schedule:
-    """Blocks shell by shell, those that others wait for first, each into the first period in
-    which no upper limit is passed, at the destination of most value that there is room for.
-    Predecessors must come behind their block, as in files of `pitc`. Lower limits are not
-    looked at: `check` tells."""
+    """Places blocks shell by shell, predecessors first, each in the first period in which no upper
+    limit is exceeded, at the destination of most value that has capacity. Predecessors must follow
+    their block, as in files of `pitc`. Lower limits are not considered: `check` reports them."""
     precedence = arcs_of(precedence)
     shell = shells(tonnes, problem.values.max(axis=1), precedence)
     order = [block
@@ -74,7 +74,7 @@ def from_shells(problem: Problem, tonnes: np.ndarray, precedence: sparse.spmatri
     uses = np.stack([problem.use_matrix(resource).toarray()
                      for resource in range(problem.resources)], axis=2)
     preferred = np.argsort(-problem.values, axis=1, kind="stable")
-    room = _room(problem)
+    capacity = _capacity(problem)
     taken = np.zeros(len(shell), dtype=bool)
     lines = []
     for period in range(problem.periods):
@@ -82,25 +82,26 @@ def from_shells(problem: Problem, tonnes: np.ndarray, precedence: sparse.spmatri
             above = precedence.indices[precedence.indptr[block]:precedence.indptr[block + 1]]
             if taken[block] or not taken[above].all():
                 continue
-            fitting = [at for at in preferred[block] if (uses[block, at] <= room[period]).all()]
+            fitting = [at for at in preferred[block] if (uses[block, at] <= capacity[period]).all()]
             if fitting:
                 taken[block] = True
-                room[period] -= uses[block, fitting[0]]
+                capacity[period] -= uses[block, fitting[0]]
                 lines.append((block, period, fitting[0]))
     table = np.array(lines, dtype=np.int64).reshape(-1, 3)
     return Schedule(table[:, 0], table[:, 1], table[:, 2], np.ones(len(table)))
 
 
-def _room(problem: Problem) -> np.ndarray:
-    """What may be used of each resource in each period, (periods, resources)."""
-    room = np.full((problem.periods, problem.resources), np.inf)
+def _capacity(problem: Problem) -> np.ndarray:
+    """Returns what may be used of each resource in each period, (periods, resources)."""
+    capacity = np.full((problem.periods, problem.resources), np.inf)
     for limit in problem.limits:
-        room[limit.period, limit.resource] = min(room[limit.period, limit.resource], limit.most)
-    return room
+        at = limit.period, limit.resource
+        capacity[at] = min(capacity[at], limit.most)
+    return capacity
 
 
 class Search:
-    """A search for schedules of a CPIT or a PCPSP, up to so many seconds."""
+    """A search for schedules of a CPIT or a PCPSP, within a number of seconds."""
 
     def __init__(self, problem: Problem, blocks: Blocks, precedence: sparse.csr_matrix,
                  seconds: float, seed: int = 1):
@@ -114,9 +115,9 @@ class Search:
         self.tonnes, self.size = blocks.tonnes, float(BLOCKS_OF_A_PART)
 
     def run(self, *starts: Schedule) -> Found:
-        """Takes a tenth of the time for the whole program, three fifths for parts of it, and the
-        rest for the whole program above what was found. Schedules of another hand may be given as
-        starts."""
+        """Uses a tenth of the time for the complete program, three fifths for parts of it, and the
+        remainder for the complete program above what was found. Schedules from elsewhere may be
+        given as starts."""
         for number, start in enumerate([from_shells(self.problem, self.tonnes, self.precedence),
                                         *starts]):
             self._take(start, "given" if number else "shells")
@@ -155,31 +156,31 @@ class Search:
                        upper=np.append(self.program.upper, np.inf))
 
     def _whole(self, seconds: float) -> None:
-        """The whole program: where nothing is above the best schedule, that is its bound."""
-        answer = solve(self._above(), max(1.0, seconds))
-        if answer.values is not None:
-            self._take(schedule_of(answer.values, self.problem, self.program.names),
+        """Solves the complete program: if nothing is above the best schedule, that is its bound."""
+        result = solve(self._above(), max(1.0, seconds))
+        if result.values is not None:
+            self._take(schedule_of(result.values, self.problem, self.program.names),
                        "the whole program")
-        if answer.status == "none" and self.best is not None:
+        if result.status == "none" and self.best is not None:
             self.bound = self.worth
-        elif answer.bound is not None:
-            self.bound = min(self.bound, max(answer.bound, self.worth))
+        elif result.bound is not None:
+            self.bound = min(self.bound, max(result.bound, self.worth))
 
     def _part(self, best: Schedule) -> None:
-        """Places some blocks anew while all others stay; the next part has more of them where this
-        one came to its end, and fewer where its time was up."""
+        """Places some blocks again while all others stay; the next part has more of them if this
+        one was finished, and fewer if its time was up."""
         free = self._some(best)
         seconds = min(SECONDS_OF_A_PART, max(1.0, self._left()))
-        answer = solve(self._above(), seconds, bounds=self._held(best, free))
-        better = answer.values is not None and self._take(
-            schedule_of(answer.values, self.problem, self.program.names), "parts of the program")
+        result = solve(self._above(), seconds, bounds=self._held(best, free))
+        better = result.values is not None and self._take(
+            schedule_of(result.values, self.problem, self.program.names), "parts of the program")
         if not better:
             self.size = max(20, min(len(self.places),
-                                    self.size * (0.9 if answer.status == "stopped" else 1.05)))
+                                    self.size * (0.9 if result.status == "stopped" else 1.05)))
 
     def _some(self, best: Schedule) -> np.ndarray:
-        """Which blocks are placed anew, bool (n,): those about one of them, or those of two
-        periods, one behind the other, and about a block."""
+        """Returns which blocks are placed again, bool (n,): those about one of them, or those of
+        two successive periods and about a block."""
         count = int(self.size)
         centre = self.places[self.chances.integers(len(self.places))]
         weights = self.chances.uniform(0.5, 2.0, 3)

@@ -1,1 +1,1 @@
-"""What was understood of a plan and its instance: facts, text, pictures and a page."""
+"""How a plan and its instance were understood: facts, text, pictures and a page."""

@@ -1,5 +1,5 @@
-"""The box with which the page of a survey begins: what the pit holds, when and by what the
-survey was made, of which files, and what was said and omitted on the way."""
+"""The box with which the page of a survey begins: the pit's contents, when and by which programs
+the survey was made, from which files, and what was reported and omitted on the way."""
 from __future__ import annotations
 
 import os
@@ -10,7 +10,7 @@ from pit_tools.files.records import sum_of
 from pit_tools.pits.report import pit_sums
 from pit_tools.plans.note import path_of_note
 from pit_tools.surveys.facts import Facts
-from pit_tools.texts.spelling import with_commas
+from pit_tools.texts.number_texts import with_commas
 from pit_tools.version import version
 
 
@@ -46,7 +46,7 @@ def box(facts: Facts, inputs: Inputs) -> list[Entry]:
 
 def _pit(facts: Facts) -> Iterator[str]:
     if facts.pit is None:
-        yield "the ultimate pit was not sought, since it would take minutes: give one by --pit"
+        yield "the ultimate pit was not computed, since it would take minutes: give one by --pit"
         return
     sums, measures = pit_sums(facts, facts.pit), facts.measures
     strip = "none" if sums.strip is None else f"{sums.strip:.2f}"
@@ -60,7 +60,7 @@ def _pit(facts: Facts) -> Iterator[str]:
 
 
 def _reconciled(facts: Facts) -> Iterator[str]:
-    """The resource report beside the instance."""
+    """Returns the comparison of the resource report with the instance."""
     kept = facts.note.reconciled
     if kept.rows:
         yield from kept.lines(facts.held, facts.measures)

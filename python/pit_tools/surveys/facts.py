@@ -1,7 +1,7 @@
-"""What is known of a plan and its instance: the numbers that a survey tells and draws.
+"""Facts of a plan and its instance: the numbers that a survey prints and draws.
 
 Nothing here lists the arcs: a block's number of predecessors is read from the second field of its
-line, and where cones and walls go follows from the plan.
+line, and the reach of cones and walls follows from the plan.
 """
 from __future__ import annotations
 
@@ -29,7 +29,7 @@ from pit_tools.plans.slopes import Judgement, judge
 from pit_tools.plans.zone_files import count_lines
 from pit_tools.texts.units import Numbers
 
-#: Places of a box up to which it is held whole.
+#: The number of cells of a box up to which it is stored completely.
 MOST_PLACES = 1 << 28
 
 #: Places of all cones up to which the ultimate pit is sought: a minute or two.
@@ -41,7 +41,7 @@ MOST_ARCS_OF_HIGHS = 200_000
 
 @dataclass(frozen=True)
 class Rock:
-    """What some blocks hold. Tonnes a cubic metre are of blocks with tonnes."""
+    """The contents of some blocks. Tonnes per cubic metre are of blocks with tonnes."""
 
     rows: int
     tonnes: float
@@ -92,9 +92,9 @@ class Leaving:
 class Facts:
     """A plan, the blocks, the numbers of predecessors, and the values of an instance.
 
-    `zone_paths` are the zone files in the order of `compile`, or none. `pit` is bool (n,) where the
-    pit is known. `note` is the plan's. `remarks` are the comments with which the block file
-    begins.
+    `zone_paths` are the zone files in the order of `compile`, or none. `pit` is bool (n,) if the
+    pit is known. `note` is the plan's sidecar file. `remarks` are the comments with which the block
+    file begins.
     """
 
     def __init__(self, plan: Plan, blocks: Blocks, arcs: np.ndarray, outline: Outline,
@@ -115,13 +115,13 @@ class Facts:
     def __len__(self) -> int:
         return len(self.blocks)
 
-    def grade_told(self, grade: float) -> str:
+    def grade_text(self, grade: float) -> str:
         """A grade in g/t in the unit in which it is reported."""
         return f"{self.measures.grade(grade):.4g} {self.measures.grade_unit}"
 
-    def cost_told(self, cents: float) -> str:
+    def cost_text(self, cents: float) -> str:
         """A price or a cost of the plan, as money."""
-        return self.measures.cost_told(cents)
+        return self.measures.cost_text(cents)
 
     @cached_property
     def zone_names(self) -> list[str]:
@@ -130,8 +130,8 @@ class Facts:
             return [zone.name for zone in self.note.zones]
         names = [os.path.splitext(file.name)[0] for file in self.zone_files]
         if len(names) == len(self.plan.zones) == len(set(names)):
-            front = len(os.path.commonprefix([name + "-" for name in names]).rpartition("-")[0])
-            return [name[front + 1 if front else 0:] or name for name in names]
+            prefix = len(os.path.commonprefix([name + "-" for name in names]).rpartition("-")[0])
+            return [name[prefix + 1 if prefix else 0:] or name for name in names]
         return [str(number) for number in range(len(self.plan.zones))]
 
     def indices(self, axis: int) -> np.ndarray:
@@ -158,14 +158,14 @@ class Facts:
     @cached_property
     def places(self) -> Places:
         if self.box > MOST_PLACES:
-            raise UserError(f"the blocks lie in a box of {self.box:,} places: is the size of the "
-                            "grid that of the blocks?")
+            raise UserError(f"the blocks are in a box of {self.box:,} cells: is the size of the "
+                            "grid the size of the blocks?")
         return Places(self.blocks)
 
     # Rock
 
     def rock(self, taken: Optional[np.ndarray] = None) -> Rock:
-        """What some blocks hold, those of a mask, or all."""
+        """Returns the contents of some blocks, by a mask, or of all."""
         tonnes = self.blocks.tonnes if taken is None else self.blocks.tonnes[taken]
         grade = self.blocks.grade if taken is None else self.blocks.grade[taken]
         solid = tonnes > 0
@@ -184,7 +184,7 @@ class Facts:
         return self.rock()
 
     def by_bench(self, weights: Optional[np.ndarray] = None) -> np.ndarray:
-        """Sums over the blocks of each bench, from the lowest index on."""
+        """Returns sums over the blocks of each bench, from the lowest index on."""
         low = self.axes[2].least
         return np.bincount(self.blocks.z - low, weights, self.axes[2].most - low + 1)
 
@@ -208,7 +208,8 @@ class Facts:
 
     @cached_property
     def gaps(self) -> tuple[int, int]:
-        """Places below a block that have none, and the most of a column in a row."""
+        """Returns the number of empty positions below a block, and the most of a column in a
+        row."""
         order = np.lexsort((self.blocks.z, self.column))
         column, z = self.column[order], self.blocks.z[order]
         empty = np.diff(z)[column[1:] == column[:-1]] - 1
@@ -236,7 +237,7 @@ class Facts:
         return int((self.waits_for_none & (self.blocks.z < self.top_of)).sum())
 
     def ground(self) -> np.ndarray:
-        """The highest index of each column, (y, x), -1 where it has no block."""
+        """Returns the highest index of each column, (y, x), -1 if it has no block."""
         return self._by_column(self.columns[2])
 
     def _by_column(self, values: np.ndarray, empty: float = -1) -> np.ndarray:
@@ -246,7 +247,7 @@ class Facts:
         return table.reshape(deep, wide)
 
     def metal_by_column(self) -> np.ndarray:
-        """Kilograms of metal of each column, (y, x), nan where it has no block."""
+        """Returns kilograms of metal of each column, (y, x), nan if it has no block."""
         wide, deep = (axis.most - axis.least + 1 for axis in self.axes[:2])
         sums = np.bincount(self.column, self.blocks.tonnes * self.blocks.grade / 1000, wide * deep)
         sums[np.bincount(self.column, minlength=wide * deep) == 0] = np.nan
@@ -256,7 +257,7 @@ class Facts:
 
     @cached_property
     def best(self) -> np.ndarray:
-        """The destination where each block is worth most, the first of equals."""
+        """Returns the destination where each block is worth most, the first of equals."""
         return self.values.argmax(axis=1)
 
     @cached_property
@@ -275,16 +276,16 @@ class Facts:
 
     @cached_property
     def is_waste_place(self) -> list[bool]:
-        """Whether a destination recovers nothing."""
+        """Returns whether a destination recovers nothing."""
         return [not one.bands for one in self.plan.destinations]
 
     @cached_property
     def held(self) -> Holdings:
-        """What the zones hold; those that `import` split are one."""
+        """Returns the contents of the zones; zones that `import` split count as one."""
         names = self.note.reconciled.names(self.zone_names)
         return holdings_of(self.blocks, names, self.plan.grid, self.note.frame)
 
-    # Where cones and slopes go
+    # The reach of cones and slopes
 
     @cached_property
     def contacts(self) -> Contacts:
@@ -293,19 +294,20 @@ class Facts:
 
     @cached_property
     def slopes(self) -> Judgement:
-        """What is to be said of the slopes and the K of the plan, for pits as high as `plan` judged
+        """Returns the report on the slopes and the K of the plan, for pits as high as `plan` judged
         them, or as the model."""
         benches = self.note.benches or self.axes[2].most - self.axes[2].least + 1
         return judge(self.plan.grid, self.plan.zones, self.zone_names, benches,
                      contacts=self.contacts)
 
     def leaving(self) -> list[Leaving]:
-        """Of each side the paying blocks from which the slope asked goes beyond the last column of
-        their row before it reaches that column's ground, and by how many metres at most."""
+        """Returns for each side the paying blocks from which the requested slope extends beyond the
+        last column of their row before it reaches that column's ground, and by how many metres at
+        most."""
         ground = self.ground()
         ids = np.flatnonzero(self.paying)
         x, y = self.places.x[ids], self.places.y[ids]
-        answer = []
+        result = []
         for side, (name, axis, way) in enumerate(SIDES):
             length = ground.shape[1 - axis]
             edge = length - 1 if way > 0 else 0
@@ -316,16 +318,16 @@ class Facts:
             rise = ((np.where(line < 0, self.axes[2].least, line) - self.blocks.z[ids])
                     * self.metres[2])
             over = rise / tangents - there * self.metres[axis]
-            answer.append(Leaving(name, int((over > 1e-6).sum()),
+            result.append(Leaving(name, int((over > 1e-6).sum()),
                                   float(np.maximum(over, 0).max(initial=0))))
-        return answer
+        return result
 
     # The pit
 
     @cached_property
     def pit(self) -> Optional[np.ndarray]:
-        """The ultimate pit of the plan, bool (n,), or None if it would take minutes: cones are
-        wide, or no compiler is there and it is too great for HiGHS."""
+        """Returns the ultimate pit of the plan, bool (n,), or None if it would take minutes: cones
+        are wide, or there is no compiler and it is too large for HiGHS."""
         if self._pit is not None:
             return self._pit
         if not self.is_soon_found(MOST_PLACES_OF_CONES, MOST_ARCS_OF_HIGHS):
@@ -335,18 +337,19 @@ class Facts:
 
     @property
     def is_pit_given(self) -> bool:
-        """Whether the pit is another's, and was not sought."""
+        """Returns whether the pit was given, and was not searched for."""
         return self._pit is not None
 
     def is_soon_found(self, places: int, arcs: int) -> bool:
-        """Whether a pit is to be sought: by the program of C++ where cones have no more places
-        than these, and where no compiler is there by HiGHS, if there are no more arcs either."""
+        """Returns whether to search for a pit: by the C++ program if cones have at most this number
+        of cells, and without a compiler by HiGHS, if there are no more arcs either."""
         return (self._places_of_cones <= places
                 and (is_compiled() or int(self.arcs.sum()) <= arcs))
 
     @cached_property
     def _places_of_cones(self) -> int:
-        """How many places the cones of all blocks have, by those of a block with rock all about."""
+        """Returns the number of cells in the cones of all blocks, from the cone of a block with
+        rock all around."""
         reach = [axis.most - axis.least for axis in self.axes]
         found = 0
         for number, zone in enumerate(self.plan.zones):
@@ -358,14 +361,15 @@ class Facts:
         return found
 
     def at_side(self) -> dict[str, np.ndarray]:
-        """Of each side which blocks have no column of blocks beside them there, bool (n,)."""
+        """Returns for each side which blocks have no column of blocks next to them there, bool
+        (n,)."""
         has_blocks = np.pad(self.ground() >= 0, 1)
         x, y = self.places.x + 1, self.places.y + 1
         steps = {"east": (0, 1), "west": (0, -1), "north": (1, 0), "south": (-1, 0)}
         return {side: ~has_blocks[y + up, x + right] for side, (up, right) in steps.items()}
 
     def floor(self, pit: np.ndarray) -> np.ndarray:
-        """The lowest index of a pit in each column, (y, x), nan if it has none."""
+        """Returns the lowest index of a pit in each column, (y, x), nan if it has none."""
         wide, deep = (axis.most - axis.least + 1 for axis in self.axes[:2])
         lowest = np.full(wide * deep, np.inf)
         np.minimum.at(lowest, self.column[pit], self.blocks.z[pit])
@@ -384,13 +388,14 @@ def read_valued(plan_path: str, base: str) -> Facts:
 
 
 def _outline_of(base: str, plan: Plan, blocks: Blocks) -> Outline:
-    """The values of BASE.pcpsp, which are those of these blocks at the plan's destinations."""
+    """Returns the values of BASE.pcpsp, which belong to these blocks at the plan's destinations."""
     outline, count = read_outline(base + ".pcpsp"), len(plan.destinations)
     if outline.values.shape != (len(blocks), count):
-        raise UserError(f"{base}.pcpsp: no values of these blocks at {count} destinations")
+        raise UserError(f"{base}.pcpsp: not the values of these blocks at {count} destinations")
     last = blocks.zone.max()
     if last >= len(plan.zones):
-        raise UserError(f"{base}.blocks has a zone {last}, and the plan {len(plan.zones)} zones")
+        raise UserError(f"{base}.blocks has a zone {last}, but the plan has {len(plan.zones)} "
+                        "zones")
     return outline
 
 
@@ -408,8 +413,8 @@ def read_facts(plan_path: str, base: str, zone_paths: Sequence[str] = (),
     progress.step(f"reads {base}.prec")
     arcs = count_predecessors(base + ".prec")
     if len(arcs) != len(blocks):
-        raise UserError(f"{base}.prec: no line of the precedence file of these blocks: "
-                        f"{len(arcs)} lines, and {len(blocks)} blocks")
+        raise UserError(f"{base}.prec: it is not the precedence file of these blocks: {len(arcs)} "
+                        f"lines, but {len(blocks)} blocks")
     progress.step(f"reads {base}.pcpsp")
     outline = _outline_of(base, plan, blocks)
     pit = NamedPit(pit_path, "").of_blocks(len(blocks)) if pit_path else None

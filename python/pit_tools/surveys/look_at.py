@@ -1,9 +1,9 @@
-"""What is odd of a plan and its instance, in words: the first part of a survey.
+"""What is unusual about a plan and its instance, in words: the first part of a survey.
 
-Each line is one that a wrong model has alone (tests/test_mistakes.py), and that no right model has
-(tests/test_right_models.py): what a resource report cannot see, as sides, slopes, destinations
-and limits, and of an instance without an import what its rock cannot be. What right models have
-too, and a planner should know, is a note.
+Only wrong models have such a line (tests/test_mistakes.py), and no right model has one
+(tests/test_right_models.py): on what a resource report cannot show, as sides, slopes, destinations
+and limits, and without an import on rock. What right models may have too, and a planner should
+know, is a note.
 """
 from __future__ import annotations
 
@@ -12,19 +12,19 @@ from typing import Iterator, NamedTuple, Optional
 import numpy as np
 
 from pit_tools.files import inputs
-from pit_tools.inventories.rock import RockModel, rock_doubts, zones_apart
-from pit_tools.plans.destinations import destination_doubts
+from pit_tools.inventories.rock import RockModel, rock_warnings, zones_apart
+from pit_tools.plans.destinations import destination_warnings
 from pit_tools.plans.file import Limit
 from pit_tools.plans.slopes import degrees_of
 from pit_tools.surveys.facts import Facts
-from pit_tools.texts.spelling import shortest, with_commas
+from pit_tools.texts.number_texts import shortest, with_commas
 from pit_tools.texts.units import is_money_a_tonne
 
 #: Degrees of slopes: faces of benches are not steeper, and walls of saturated clay not flatter.
 STEEPEST, FLATTEST = 75.0, 10.0
 
-#: The mean grade of a model with its waste is not so many times the one that pays; where it is, the
-#: pit takes nearly all, and says nothing of sides.
+#: The mean grade of a model with its waste is not this multiple of the one that pays; if it is, the
+#: pit contains nearly all, and sides mean nothing.
 TIMES_THE_ONE_THAT_PAYS = 10.0
 
 #: No mine discounts more in a period.
@@ -33,12 +33,12 @@ MOST_RATE = 0.3
 #: Kilotonnes or megatonnes taken for tonnes make a pit of thousands of periods.
 PERIODS_FOR_ONE = 20
 
-#: A digit too many makes a limit ten times the usual one.
+#: An extra digit makes a limit ten times the usual one.
 DIGIT = 10
 
 
 class Finding(NamedTuple):
-    """What is odd, and the part of the survey that has its numbers."""
+    """A finding, and the part of the survey that has its numbers."""
 
     part: str
     told: str
@@ -53,9 +53,9 @@ def look_at(facts: Facts) -> list[Finding]:
 
 
 def notes(facts: Facts) -> list[Finding]:
-    """What is no mistake and must be known, in the same order."""
+    """Returns what is not a mistake but must be known, in the same order."""
     parts = [("ROCK", _density), ("SLOPES", lambda facts: facts.slopes.notes),
-             ("BEST FOR", _little_used), ("RESOURCES", _rest_left), ("FILES", _note)]
+             ("BEST FOR", _little_used), ("RESOURCES", _remainder), ("FILES", _note)]
     return [Finding(part, told) for part, find in parts for told in find(facts)]
 
 
@@ -64,7 +64,7 @@ def _count(number: float, what: str) -> str:
 
 
 def rock_model(facts: Facts) -> RockModel:
-    """The blocks of an instance for what is mostly wrong of rock."""
+    """Returns the blocks of an instance for the checks of rock."""
     index = (facts.blocks.x - facts.axes[0].least, facts.blocks.y - facts.axes[1].least,
              facts.blocks.z - facts.axes[2].least)
     return RockModel(index, facts.blocks.tonnes, facts.blocks.grade, facts.blocks.zone,
@@ -73,9 +73,9 @@ def rock_model(facts: Facts) -> RockModel:
 
 
 def _rock(facts: Facts) -> Iterator[str]:
-    """Of an import that told it the findings of rock are in its own words."""
+    """Returns whether the findings of rock come from an import that reported them."""
     if not facts.note.told:
-        yield from rock_doubts(rock_model(facts))
+        yield from rock_warnings(rock_model(facts))
     graded = (facts.blocks.tonnes == 0) & (facts.blocks.grade > 0)
     if graded.any():
         yield f"{_count(graded.sum(), 'block')} of 0 t have a grade: is their density missing?"
@@ -83,13 +83,14 @@ def _rock(facts: Facts) -> Iterator[str]:
     if times > TIMES_THE_ONE_THAT_PAYS and not any(_destinations(facts)) and not any(
             zones_apart(rock_model(facts))):
         mean = facts.of_all.grade
-        yield (f"the mean grade, {facts.grade_told(mean)}, is {with_commas(times)} times the one "
-               f"that pays, {facts.grade_told(mean / times)}: are grades in parts a billion, or a "
-               "cost or a price in another unit?")
+        yield (f"the mean grade, {facts.grade_text(mean)}, is {with_commas(times)} times the one "
+               f"that pays, {facts.grade_text(mean / times)}: are grades in parts per billion, or "
+               "a cost or a price in another unit?")
 
 
 def _times_the_one_that_pays(facts: Facts) -> float:
-    """The mean grade of all rock beside the smallest that pays, 0 where none is known."""
+    """Returns the mean grade of all rock as a multiple of the smallest that pays, 0 if none is
+    known."""
     ends = [one.break_even for one in facts.plan.destinations if one.break_even]
     return facts.of_all.grade / min(ends) if ends else 0.0
 
@@ -107,12 +108,12 @@ def _zone_files(facts: Facts) -> Iterator[str]:
     wanted = [zone.file for zone in facts.note.zones]
     names = [file.name for file in facts.zone_files]
     if names and wanted and names != wanted:
-        yield (f"zone files are {', '.join(names)}, and those of the plan {', '.join(wanted)}: "
-               "each zone has the slopes of its record")
+        yield (f"zone files are {', '.join(names)}, but the plan's {', '.join(wanted)}: each zone "
+               "has the slopes of its record")
         return
     for zone, (file, rock) in enumerate(zip(facts.zone_files, facts.of_zone)):
         if file.lines != rock.rows:
-            yield (f"{file.name} has {with_commas(file.lines)} lines, and zone "
+            yield (f"{file.name} has {with_commas(file.lines)} lines, but zone "
                    f"{facts.zone_names[zone]} {with_commas(rock.rows)} rows: is it another file, "
                    "or is a quote open?")
 
@@ -130,7 +131,8 @@ def _slopes(facts: Facts) -> Iterator[str]:
 
 
 def _sides(facts: Facts) -> Iterator[str]:
-    """Where the pit ends for want of rock; where it is not known, where slopes leave the model."""
+    """Yields where the pit ends because rock is missing; if it is unknown, where slopes leave the
+    model."""
     if _times_the_one_that_pays(facts) > TIMES_THE_ONE_THAT_PAYS:
         return
     pit = facts.pit
@@ -147,48 +149,48 @@ def _sides(facts: Facts) -> Iterator[str]:
         told = ", ".join(f"{with_commas(many)} {side}" for side, many in sides.items() if many)
         yield (f"the pit of {_count(pit.sum(), 'block')} ends at sides of the model ({told}): an "
                "upright wall there costs nothing")
-    # Waste at the floor of a model is no sign that ore continues.
+    # Waste at the floor of a model does not show that ore continues.
     bottom = (pit & facts.paying & (facts.blocks.z == facts.floor_of)).sum()
     if bottom:
         yield (f"the pit takes ore as the lowest rock of {_count(bottom, 'column')}: does the ore "
-               "go on below the model?")
+               "continue below the model?")
 
 
 def _destinations(facts: Facts) -> Iterator[str]:
-    return destination_doubts(facts.plan.destinations,
-                              is_money_a_tonne(facts.measures.grade_unit), facts.cost_told)
+    return destination_warnings(facts.plan.destinations,
+                                is_money_a_tonne(facts.measures.grade_unit), facts.cost_text)
 
 
 def _best_for(facts: Facts) -> Iterator[str]:
-    """Destinations to which nothing goes, with the grades from which they pay, if no price,
+    """Yields destinations to which nothing goes, with the grades from which they pay, if no price,
     cost or recovery is the cause."""
     if facts.of_all.top_grade == 0 or any(_destinations(facts)):
         return
     rows = np.bincount(facts.best, minlength=len(facts.plan.destinations))
     if not facts.paying.any():
-        yield ("no block is worth more than 0: look at the units of grade, price and cost; "
-               + "; ".join(_pays_told(facts, at) for at, one in enumerate(facts.plan.destinations)
+        yield ("no block is worth more than 0: check the units of grade, price and cost; "
+               + "; ".join(_pays_text(facts, at) for at, one in enumerate(facts.plan.destinations)
                            if one.bands))
         return
     for at, (one, count) in enumerate(zip(facts.plan.destinations, rows)):
         if count == 0:
             yield f"{one.name} is best for no block: " + (
-                f"are its price and its cost in their places? {_pays_told(facts, at)}" if one.bands
-                else "was waste, or rock below a cut-off, left out? It would cost nothing to dig")
+                f"are its price and its cost exchanged? {_pays_text(facts, at)}" if one.bands
+                else "was waste, or rock below a cut-off, omitted? It would cost nothing to dig")
 
 
-def _pays_told(facts: Facts, number: int) -> str:
+def _pays_text(facts: Facts, number: int) -> str:
     one = facts.plan.destinations[number]
-    start = "at no grade" if one.break_even is None else f"from {facts.grade_told(one.break_even)}"
-    return (f"{one.name} pays {start}, and the highest grade is "
-            f"{facts.grade_told(facts.of_all.top_grade)}")
+    start = "at no grade" if one.break_even is None else f"from {facts.grade_text(one.break_even)}"
+    return (f"{one.name} pays {start}, but the highest grade is "
+            f"{facts.grade_text(facts.of_all.top_grade)}")
 
 
 def _little_used(facts: Facts) -> Iterator[str]:
     rows = np.bincount(facts.best, minlength=len(facts.plan.destinations))
     for one, count in zip(facts.plan.destinations, rows):
         if one.kind == "leach" and 0 < count < 0.005 * len(facts):
-            yield f"{one.name} is best for {_count(int(count), 'block')} alone"
+            yield f"{one.name} is best for only {_count(int(count), 'block')}"
 
 
 def _note(facts: Facts) -> Iterator[str]:
@@ -199,10 +201,10 @@ def _note(facts: Facts) -> Iterator[str]:
 def _resources(facts: Facts) -> Iterator[str]:
     plan = facts.plan
     if plan.rate > MOST_RATE:
-        yield f"the rate is {shortest(100 * float(plan.rate), 4)} % a period: 0.08 is 8 %"
+        yield f"the rate is {shortest(100 * float(plan.rate), 4)} % per period: 0.08 is 8 %"
     elif plan.rate == 0 and plan.periods > 1:
         yield "the rate is 0: no period counts less than another"
-    # A fleet that takes all rock but waste; a crusher alone says nothing of a fleet.
+    # A fleet that moves all rock except waste; a crusher alone shows nothing about a fleet.
     dumps = {at for at, one in enumerate(plan.destinations) if one.kind == "dump"}
     others = set(range(len(plan.destinations))) - dumps
     covers = [set(resource.covers) for resource in plan.resources]
@@ -213,8 +215,8 @@ def _resources(facts: Facts) -> Iterator[str]:
 
 
 def tonnes_covered(facts: Facts, resource: int, taken: Optional[np.ndarray] = None) -> float:
-    """Tonnes of all blocks, or of those of a mask, that are best at destinations which a resource
-    covers."""
+    """Returns the tonnes of all blocks, or of those of a mask, that are best at destinations which
+    a resource covers."""
     is_covered = np.isin(facts.best, facts.plan.resources[resource].covers)
     if taken is not None:
         is_covered &= taken
@@ -228,7 +230,7 @@ def _limits_by_resource(facts: Facts) -> Iterator[tuple[int, list[Optional[Limit
 
 
 def _periods_needed(facts: Facts, number: int, limits: list[Optional[Limit]]) -> float:
-    """How many periods the pit's tonnes take, where each has a limit above; else 0."""
+    """Returns how many periods the pit's tonnes take, if each has an upper limit; else 0."""
     most = [float(limit.upper) for limit in limits if limit and limit.upper is not None]
     if len(most) < facts.plan.periods or not sum(most):
         return 0.0
@@ -245,41 +247,41 @@ def _limits(facts: Facts) -> Iterator[str]:
             yield f"{name} takes any tonnes in period 0: periods count from 0"
         letters = {limit.letter for limit in limits if limit}
         if letters == {"G"}:
-            yield f"{name} has lower limits alone: G is at least, L is at most"
+            yield f"{name} has only lower limits: G is at least, L is at most"
         elif "G" in letters:
             yield f"{name} has limits at least and at most: L is at most, G is at least"
         yield from _amounts(facts, number, limits)
 
 
 def _amounts(facts: Facts, number: int, limits: list[Optional[Limit]]) -> Iterator[str]:
-    """Findings of how many tonnes a resource takes and gets."""
+    """Yields findings about the tonnes that a resource may and must process."""
     name, whole = facts.plan.resources[number].name, tonnes_covered(facts, number)
     most = [float(limit.upper) for limit in limits if limit and limit.upper is not None]
     least = sum(float(limit.lower) for limit in limits if limit and limit.lower is not None)
     if least > whole:
-        yield (f"{name} asks for {with_commas(least)} t in all, and {with_commas(whole)} are best "
+        yield (f"{name} requires {with_commas(least)} t in all, but {with_commas(whole)} are best "
                "there: no schedule has that, or it moves waste for it")
     need = _periods_needed(facts, number, limits)
     if need > PERIODS_FOR_ONE * facts.plan.periods:
-        yield (f"the pit's tonnes take {with_commas(need)} periods of {name}, and there are "
+        yield (f"the pit's tonnes take {with_commas(need)} periods of {name}, but there are "
                f"{facts.plan.periods}: are limits in kilotonnes?")
     usual = float(np.median(most)) if most else 0.0
     if usual and max(most) >= DIGIT * usual:
-        yield (f"limits of {name} are {with_commas(usual)} t in the middle and up to "
-               f"{with_commas(max(most))}: has one a digit too many?")
+        yield (f"limits of {name} have the median {with_commas(usual)} t and go up to "
+               f"{with_commas(max(most))}: does one have an extra digit?")
 
 
-def _rest_left(facts: Facts) -> Iterator[str]:
+def _remainder(facts: Facts) -> Iterator[str]:
     for number, limits in _limits_by_resource(facts):
         need, periods = _periods_needed(facts, number, limits), facts.plan.periods
         if 1.001 * periods < need <= PERIODS_FOR_ONE * periods:
             yield (f"the pit's tonnes take {with_commas(need, 2)} periods of "
-                   f"{facts.plan.resources[number].name}, and there are {periods}: the rest is "
-                   "left")
+                   f"{facts.plan.resources[number].name}, but there are {periods}: the remainder "
+                   "is not mined")
 
 
 def unlike_plan(facts: Facts) -> list[str]:
-    """What of the files is not as the plan asks, a line each."""
+    """Yields a line for each difference between the files and the plan."""
     plan, header = facts.plan, facts.outline.header
     pairs = sum(len(resource.covers) for resource in plan.resources)
     wanted = [("NAME", header.get("NAME"), plan.name),
@@ -290,22 +292,22 @@ def unlike_plan(facts: Facts) -> list[str]:
               ("values that are not the plan's", facts.strange_values, 0),
               ("coefficients", facts.outline.uses, pairs * facts.of_all.solid),
               ("limits", len(facts.outline.limits), len(plan.limits))]
-    return [f"{what}: {found} in the instance, {asked} by the plan"
-            for what, found, asked in wanted if found != asked]
+    return [f"{what}: {found} in the instance, but {requested} by the plan"
+            for what, found, requested in wanted if found != requested]
 
 
 def _files(facts: Facts) -> Iterator[str]:
     for remark in facts.remarks:
         yield f"the block file begins with a remark: {remark}"
     for line in unlike_plan(facts):
-        yield f"{line}: are files of two runs, or of another plan, beside each other?"
+        yield f"{line}: do files of two runs, or of another plan, have this base?"
     if not unlike_plan(facts) and not _limits_agree(facts):
-        yield "limits of the instance are not those of the plan"
+        yield "limits of the instance differ from the plan's"
 
 
 def _limits_agree(facts: Facts) -> bool:
     found = {(one.resource, one.period): (one.letter, *one.ends) for one in facts.outline.limits}
-    asked = {(one.resource, one.period):
-             (one.letter, *(float(end) for end in (one.lower, one.upper) if end is not None))
-             for one in facts.plan.limits}
-    return found == asked
+    requested = {(one.resource, one.period):
+                 (one.letter, *(float(end) for end in (one.lower, one.upper) if end is not None))
+                 for one in facts.plan.limits}
+    return found == requested

@@ -41,15 +41,15 @@ SMALL = ("inputs", "plan", "import", "reconciled")
 
 
 def survey_page(facts: Facts, inputs: Inputs, text: str = "", planes: Sequence[Plane] = ()) -> str:
-    """The page; `text` is the survey's text where it is known already, and `planes` are sections
-    that were asked for."""
+    """Returns the page; `text` is the survey's text if it is known already, and `planes` are the
+    requested sections."""
     title = f"Survey of {facts.plan.name}"
     pictures = all_of_them(facts, planes)
     links = "".join(f'<a href="#{name}">{name}</a>'
                     for name in ["look", *(name for name, _, _ in pictures), "turn", "numbers"])
-    figures = "".join(f'<h2 id="{name}">{name}</h2>\n<p>{escape(told)}</p>\n<img alt="{name}" '
+    figures = "".join(f'<h2 id="{name}">{name}</h2>\n<p>{escape(message)}</p>\n<img alt="{name}" '
                       f'src="data:image/png;base64,{base64.b64encode(png_of(drawn)).decode()}">\n'
-                      for name, told, drawn in pictures)
+                      for name, message, drawn in pictures)
     return ('<!doctype html>\n<html lang="en"><head><meta charset="utf-8">'
             '<meta name="viewport" content="width=device-width">'
             f"<title>{escape(title)}</title>\n<style>{STYLE}</style></head>\n"
@@ -71,12 +71,13 @@ def _box(facts: Facts, inputs: Inputs) -> str:
 
 
 def _findings(facts: Facts) -> str:
-    found = (_list(look_at(facts), "look") or '<p class="fine">Nothing odd was found; the pictures '
-             'and numbers say what was understood.</p>')
+    found = (_list(look_at(facts), "look") or '<p class="fine">Nothing unusual was found; the '
+             'pictures and numbers show how the instance was understood.</p>')
     noted = _list(notes(facts), "note")
     return found + (f"\n<p>Besides:</p>\n{noted}" if noted else "")
 
 
 def _list(findings: Sequence[Finding], kind: str) -> Optional[str]:
-    items = "".join(f"<li><b>{escape(part)}</b>: {escape(told)}</li>\n" for part, told in findings)
+    items = "".join(f"<li><b>{escape(part)}</b>: {escape(message)}</li>\n"
+                    for part, message in findings)
     return f'<ul class="{kind}">\n{items}</ul>' if items else None

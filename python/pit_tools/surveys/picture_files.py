@@ -12,7 +12,7 @@ ENDINGS = (".png", ".svg", ".pdf")
 
 
 def write_picture(drawn: Figure, place: str) -> None:
-    """Writes a picture in the form of its ending; the same one makes the same SVG."""
+    """Writes a picture in the form of its ending; equal pictures make equal SVG files."""
     import matplotlib
 
     form = place.rpartition(".")[2].lower()

@@ -1,4 +1,4 @@
-"""Pictures of a survey: each function answers a matplotlib Figure, drawn without a screen."""
+"""Pictures of a survey: each function returns a matplotlib Figure, drawn without a screen."""
 from __future__ import annotations
 
 import io
@@ -22,7 +22,7 @@ from pit_tools.surveys.look_at import tonnes_covered
 from pit_tools.surveys.pit import cumulative, pit_parts
 from pit_tools.surveys.text import above_cut_offs
 from pit_tools.texts.formats import MOST_HEIGHT
-from pit_tools.texts.spelling import shortest
+from pit_tools.texts.number_texts import shortest
 
 #: From barren to rich.
 GRADE_COLOURS = ("#ece8df", "#fde3a7", "#fdbb63", "#f4813f", "#d1422b", "#7f1420")
@@ -31,7 +31,7 @@ GRADE_COLOURS = ("#ece8df", "#fde3a7", "#fdbb63", "#f4813f", "#d1422b", "#7f1420
 ZONE_COLOURS = ("#4c78a8", "#e0a030", "#72a86b", "#b279a2", "#9d755d", "#79b8b2", "#d67195",
                 "#8a8a8a", "#c7b446", "#5f5fa8")
 
-# A `$` in a name is a sign of the name, and begins no formula.
+# A `$` in a name is a character of the name, and begins no formula.
 matplotlib.rcParams["text.parse_math"] = False
 
 OUTLINE, SIDE, GROUND = "#111111", "#d00000", "#7a5c2e"
@@ -69,9 +69,9 @@ def round_numbers(top: float, many: int = 5) -> np.ndarray:
 
 
 def grade_ends(facts: Facts) -> np.ndarray:
-    """The smallest grades of the shades, in the unit in which they are reported: 0; the
-    smallest that pays, so that the first shade is what pays nowhere; and round numbers above
-    it up to the richest rock."""
+    """Returns the smallest grades of the shades, in the unit in which they are reported: 0; the
+    smallest that pays, so that the first shade pays nowhere; and round numbers above it up to the
+    richest rock."""
     graded = facts.measures.grade(facts.blocks.grade[facts.blocks.grade > 0])
     top = (float(np.percentile(graded, 99.5)) if len(graded) else 1.0) * 0.85
     pays = [facts.measures.grade(one.break_even)
@@ -94,8 +94,8 @@ def _extent(facts: Facts, across: int, up: int) -> tuple[float, float, float, fl
 
 def _lines_where(across: np.ndarray, extent: Sequence[float], shape: Sequence[int],
                  is_level: bool) -> list[Any]:
-    """The edges of cells, below row r of column c or left of column c in row r, where `across` is
-    true."""
+    """The edges of cells, below row r of column c or to the left of column c in row r, if `across`
+    is true."""
     left, right, low, high = extent
     wide, tall = (right - left) / shape[1], (high - low) / shape[0]
     rows, columns = np.nonzero(across)
@@ -107,9 +107,9 @@ def _lines_where(across: np.ndarray, extent: Sequence[float], shape: Sequence[in
 def draw_outline(axes: Axes, mask: np.ndarray, extent: Sequence[float],
                  has_rock: Optional[np.ndarray] = None, colour: str = OUTLINE, width: float = 1.8,
                  style: str = "-", is_open_above: bool = False) -> None:
-    """Lines between the cells of a mask (up, across) and other cells. Where `has_rock` says which
-    cells have a block, there is none between a pit and air, and what meets a side of the picture is
-    red, but the upper one where the picture is open there."""
+    """Draws lines between the cells of a mask (up, across) and other cells. If `has_rock` shows
+    which cells have a block, there is none between a pit and air, and lines at a side of the
+    picture are red, except the upper one of an open picture."""
     beside = np.pad(~mask if has_rock is None else has_rock & ~mask, 1,
                     constant_values=has_rock is None)
     outside = np.pad(np.zeros_like(mask), 1, constant_values=has_rock is not None)
@@ -163,7 +163,7 @@ def _draw_floor(facts: Facts, drawn: Figure, axes: Axes, extent: Sequence[float]
                 cmap=ListedColormap(["#f1efe8"]), interpolation="nearest")
     if pit is None or not pit.any():
         _plain_axes(axes, "x", "y", "the ultimate pit has no block" if pit is not None
-                    else "the ultimate pit was not sought")
+                    else "the ultimate pit was not computed")
         return
     floor = facts.floor(pit)
     shown = axes.imshow(facts.centroid(2, floor - 0.5), origin="lower", extent=extent,
@@ -202,22 +202,23 @@ PLANES = {"y": (1, 0, 2, "section along x at y = {} m, seen from the south"),
 
 
 class Plane(NamedTuple):
-    """A plane of blocks: the axis across which it lies, and its index."""
+    """A plane of blocks: the axis across it, and its index."""
 
     normal: str
     place: int
 
 
 def plane_at(facts: Facts, normal: str, metres: float) -> Plane:
-    """The plane of blocks nearest to a coordinate. Raises UserError if no block lies there."""
+    """Returns the plane of blocks nearest to a coordinate. Raises UserError if there is no
+    block."""
     number = PLANES[normal][0]
     away = (metres - facts.origin[number]) / facts.metres[number]
     index = round(away) if abs(away) < MOST_HEIGHT else -1
     if not (facts.indices(number) == index).any():
         first, last = (facts.centroid(number, end)
                        for end in (facts.axes[number].least, facts.axes[number].most))
-        raise UserError(f"no block lies at {normal} = {metres:g} m: they lie from {first:g} to "
-                        f"{last:g} m")
+        raise UserError(f"there is no block at {normal} = {metres:g} m: blocks are from {first:g} "
+                        f"to {last:g} m")
     return Plane(normal, index)
 
 
@@ -273,7 +274,7 @@ def zone_label(facts: Facts, zone: int) -> str:
 
 
 def plane_heights(facts: Facts, normals: Sequence[str], wide: float) -> list[float]:
-    """How high each plane's picture is, in inches, if it is so wide: at most 1.2 times that,
+    """Returns how high each plane's picture is, in inches, at this width: at most 1.2 times that,
     and at least an eighth."""
     found = []
     for normal in normals:
@@ -283,10 +284,11 @@ def plane_heights(facts: Facts, normals: Sequence[str], wide: float) -> list[flo
     return found
 
 
-def planes(facts: Facts, asked: Sequence[Plane] = ()) -> Figure:
-    """Sections and benches by grade and by zone, with the pit: those that are asked for, or one
+def planes(facts: Facts, requested: Sequence[Plane] = ()) -> Figure:
+    """Draws sections and benches by grade and by zone, with the pit: the requested ones, or one
     along x, one along y and a bench through most metal."""
-    shown = list(asked) or [Plane(normal, richest(facts, PLANES[normal][0])) for normal in "yxz"]
+    shown = list(requested) or [Plane(normal, richest(facts, PLANES[normal][0]))
+                                for normal in "yxz"]
     heights = plane_heights(facts, [plane.normal for plane in shown], 5.8)
     drawn = figure(13, 0.6 + sum(heights) + len(shown) * 0.85)
     legends, *rows = drawn.subplots(len(shown) + 1, 2,
@@ -335,8 +337,8 @@ def grade_tonnage(facts: Facts) -> Figure:
 
 
 def rose(facts: Facts) -> Figure:
-    """Slopes asked and given by bearing, a rose for each of the first zones, and walls by
-    height."""
+    """Draws slopes requested and obtained by bearing, a rose for each of the first zones, and walls
+    by height."""
     zones = facts.plan.zones[:4]
     drawn = Figure(figsize=(3.4 * len(zones) + 4.2, 4.2))
     FigureCanvasAgg(drawn)
@@ -348,7 +350,7 @@ def rose(facts: Facts) -> Figure:
         axes.set_theta_direction(-1)
         walls = wall.measured(facts.plan.grid, zone)
         for values, colour, style, name in (
-                (walls.asked, "#2a7f3f", "-", "asked"),
+                (walls.requested, "#2a7f3f", "-", "asked"),
                 (walls.given[zone.benches], "#c0392b", "--", f"given by K = {zone.benches}")):
             axes.plot(bearings, np.append(values, values[0]), label=name, color=colour,
                       linestyle=style, linewidth=2 if style == "-" else 1.4)
@@ -366,7 +368,7 @@ def _draw_heights(facts: Facts, axes: Axes) -> None:
     high = np.arange(3, 61)
     for number, zone in enumerate(facts.plan.zones[:10]):
         over = (wall.straight_walls(facts.plan.grid, zone, zone.benches, 60)
-                - wall.asked_straight(zone)).max(axis=1)
+                - wall.requested_straight(zone)).max(axis=1)
         axes.plot(high, over[high - 1], color=zone_colour(number),
                   label=f"{zone_label(facts, number)}, K = {zone.benches}")
     axes.axhline(2, color="#888888", linewidth=0.8, linestyle=":")
@@ -383,7 +385,7 @@ def _draw_heights(facts: Facts, axes: Axes) -> None:
 
 
 def periods(facts: Facts) -> Figure:
-    """The tonnes that resources allow by period, and those of the pit."""
+    """Draws the tonnes that resources allow by period, and those of the pit."""
     count = max(1, len(facts.plan.resources))
     drawn = figure(min(15, 4.6 * count + 1), 3.8)
     if not facts.plan.resources:
@@ -439,7 +441,7 @@ def rock(facts: Facts) -> Figure:
     density.hist(values, bins=40, stacked=True,
                  color=[zone_colour(zone) for zone in range(len(values))], label=names)
     density.legend(fontsize=8)
-    density.set_title("blocks by tonnes a cubic metre", loc="left", fontsize=10)
+    density.set_title("blocks by tonnes per cubic metre", loc="left", fontsize=10)
     density.set_xlabel("t/m3")
     return drawn
 
@@ -462,58 +464,60 @@ def _draw_benches(facts: Facts, axes: Axes) -> None:
     axes.legend(fontsize=8)
 
 
-def all_of_them(facts: Facts, asked: Sequence[Plane] = ()) -> list[tuple[str, str, Figure]]:
-    """The pictures of a survey: a short name, what to look for, and the figure; sections that were
-    asked for have one of their own."""
+def all_of_them(facts: Facts, requested: Sequence[Plane] = ()) -> list[tuple[str, str, Figure]]:
+    """Yields the pictures of a survey: a short name, what to look for, and the figure; requested
+    sections have their own."""
     drawers: list[tuple[str, str, Callable[[], Figure]]] = [
         ("maps", "Is north up, and the ore where it is in the package? A model that is mirrored, "
-         "turned or cut shows here. Where the floor is framed in red the pit ends at a side of the "
-         "model, and its wall costs nothing.", lambda: maps(facts)),
-        ("sections", "Through the planes that hold most metal; the line is the ultimate pit. Look "
-         "for air as rock, rows that are lacking, zones in each other's place.",
+                 "turned or cut shows here. If the floor is framed in red the pit ends at a side "
+                 "of the model, and its wall costs nothing.", lambda: maps(facts)),
+        ("sections", "Through the planes that contain most metal; the line is the ultimate pit. "
+                     "Look for air as rock, missing rows, and exchanged zones.",
          lambda: planes(facts)),
-        ("more-sections", "Those that were asked for.", lambda: planes(facts, asked)),
-        ("cut-offs", "Lay the curve beside the report of resources.",
+        ("more-sections", "The requested sections.", lambda: planes(facts, requested)),
+        ("cut-offs", "Compare the curve with the resource report.",
          lambda: grade_tonnage(facts)),
-        ("slopes", "Green is asked, red is what the cones of K give. Each wall of the rose has its "
-         "own slope: is each where it should be?", lambda: rose(facts)),
-        ("periods", "What resources allow, beside the tonnes of the pit.", lambda: periods(facts)),
-        ("rock", "Ore is what is best at a mill or a leach.", lambda: rock(facts)),
+        ("slopes", "Green is requested, red is what the cones of K give. Each wall of the rose has "
+                   "its own slope: is each where it should be?", lambda: rose(facts)),
+        ("periods", "What resources allow, compared with the tonnes of the "
+                    "pit.", lambda: periods(facts)),
+        ("rock", "Ore is best at a mill or a leach.", lambda: rock(facts)),
     ]
     found = []
-    for name, told, draw in drawers:
-        if asked or name != "more-sections":
+    for name, message, draw in drawers:
+        if requested or name != "more-sections":
             progress.step(f"draws {name}")
-            found.append((name, told, draw()))
+            found.append((name, message, draw()))
     return [*found, *_of_the_pit(facts)]
 
 
 def _of_the_pit(facts: Facts) -> Iterator[tuple[str, str, Figure]]:
-    """What the pit holds by zone, and its cash flow by bench and by nested pit, as far as each is
-    known."""
+    """Draws the pit's contents by zone, and its cash flow by bench and by nested pit, as far as
+    each is known."""
     parts = pit_parts(facts)
     if parts is None:
         return
     progress.step("draws the pit by zone and its cash flow")
-    yield ("zones-of-the-pit", "Which zones carry the pit? Lay the tonnes beside those of the "
-           "package's own pit.", zones_of_the_pit(facts, parts.zones[:-1]))
+    yield ("zones-of-the-pit", "Which zones carry the pit? Compare the tonnes with those of the "
+                               "package's own pit.", zones_of_the_pit(facts, parts.zones[:-1]))
     benches = parts.benches[:-1]
     yield ("cash-flow", "From the top bench down, undiscounted: how far the pit is in debt before "
            "its ore pays.", cash_flow(facts, benches, [
                f"z = {shortest(line.z or 0.0, 3)}" for line in benches]))
     if parts.nested:
-        yield ("nested-pits", "What each nested pit adds to that before it, at the plan's price: "
-               "where the sum rises little, the last pit risks much for little.",
+        yield ("nested-pits", "What each nested pit adds to the pit before it, at the plan's "
+                              "price: where the sum rises little, the last pit risks much for "
+                              "little.",
                cash_flow(facts, parts.nested, [f"factor {line.name}" for line in parts.nested]))
 
 
-#: Zones, and lines of cash flow, that a picture has room for.
+#: The most zones, and lines of cash flow, of a picture.
 MOST_BARS = 60
 
 
 def zones_of_the_pit(facts: Facts, lines: Sequence[Line]) -> Figure:
-    """Tonnes of ore and waste, the grade of ore, and the value of each zone in the pit; of very
-    many zones those with most tonnes."""
+    """Draws tonnes of ore and waste, the grade of ore, and the value of each zone in the pit; of
+    very many zones those with most tonnes."""
     heavy = sorted(lines, key=lambda line: -line.sums.ore - line.sums.waste)[:MOST_BARS]
     shown = [line for line in lines if line in heavy]
     drawn = figure(14, 1.4 + 0.34 * max(4, len(shown)))
@@ -540,7 +544,7 @@ def zones_of_the_pit(facts: Facts, lines: Sequence[Line]) -> Figure:
 
 
 def cash_flow(facts: Facts, lines: Sequence[Line], names: Sequence[str]) -> Figure:
-    """What the ore of each line is worth and its waste costs, and the sum of all lines down to
+    """Draws the worth of each line's ore, the cost of its waste, and the sum of all lines down to
     each."""
     drawn = figure(13, 1.4 + 0.22 * max(6, min(len(lines), MOST_BARS)))
     flow, total = drawn.subplots(1, 2, sharey=True)

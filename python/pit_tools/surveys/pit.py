@@ -1,4 +1,4 @@
-"""The pit in a survey: what it holds by zone, and its cash flow by bench and by nested pit."""
+"""The pit in a survey: its contents by zone, and its cash flow by bench and by nested pit."""
 from __future__ import annotations
 
 from dataclasses import dataclass
@@ -13,22 +13,22 @@ from pit_tools.pits.back import Mined
 from pit_tools.pits.nested import nested_pits
 from pit_tools.pits.report import Line, Report, head
 from pit_tools.surveys.facts import Facts
-from pit_tools.texts.spelling import shortest, with_commas
+from pit_tools.texts.number_texts import shortest, with_commas
 
 #: The factors of the price of nested pits; the ultimate pit, of factor 1, is known.
 FACTORS = tuple(map(Decimal, ("0.4", "0.6", "0.8")))
 
-#: Places of all cones, and arcs where no compiler is there, up to which nested pits are sought.
-#: Each lies within the ultimate pit, so all take at most so many times as long as that did; these
-#: bounds are below those of the ultimate pit, so that a survey stays one of minutes.
+#: The largest numbers of cells of all cones, and of arcs without a compiler, for which nested pits
+#: are computed. Each is within the ultimate pit, so all take at most a multiple of its time; these
+#: bounds are below those of the ultimate pit, so that a survey takes minutes.
 MOST_PLACES, MOST_ARCS = 1_000_000_000, 50_000
 
 
 @dataclass(frozen=True)
 class PitParts:
-    """The lines of a pit by zone and by bench, as a report has them, each with one of all
-    last; and by nested pit, the smallest factor first, of what each adds to that before it.
-    Where nested pits are omitted, there are no lines, and `why_not` says why."""
+    """The lines of a pit by zone and by bench, as a report has them, each with a total last; and by
+    nested pit, the smallest factor first, with what each adds to the pit before it. If nested pits
+    are omitted, there are no lines, and `why_not` is the reason."""
 
     zones: list[Line]
     benches: list[Line]
@@ -38,8 +38,8 @@ class PitParts:
 
 @lru_cache(maxsize=1)
 def pit_parts(facts: Facts) -> Optional[PitParts]:
-    """The parts of the pit of a survey, or None if it is not known or has no blocks. Its text
-    and its pictures ask for them, and nested pits are sought once."""
+    """Returns the parts of the pit of a survey, or None if it is unknown or has no blocks. Its text
+    and its pictures use them, and nested pits are computed once."""
     if facts.pit is None or not facts.pit.any():
         return None
     report = Report(facts, Mined(np.flatnonzero(facts.pit)))
@@ -55,15 +55,15 @@ def pit_parts(facts: Facts) -> Optional[PitParts]:
 
 def _why_no_nested(facts: Facts) -> str:
     if facts.is_pit_given:
-        return "the pit is that of --pit; `pit-tools nested` finds those of the plan"
+        return "the pit was given by --pit; `pit-tools nested` finds nested pits of the plan"
     if not facts.is_soon_found(MOST_PLACES, MOST_ARCS):
         return "they would take minutes; `pit-tools nested` finds them"
     return ""
 
 
 def _nested(facts: Facts, report: Report, pit: np.ndarray) -> list[Line]:
-    """What each pit adds to that of the factor before. It raises UserError for a plan that has no
-    price, or is not that of the values."""
+    """Returns what each pit adds to that of the factor before. It raises UserError for a plan that
+    has no price, or does not belong to the values."""
     smallest = np.full(len(facts), len(FACTORS))
     for number, one in enumerate(nested_pits(facts, FACTORS, pit), 1):
         smallest[one.in_pit] = len(FACTORS) - number
@@ -78,7 +78,7 @@ def zone_lines(facts: Facts) -> Iterator[str]:
     width = max(len(line.name) for line in parts.zones)
     yield f"{'ZONES OF THE PIT':<{max(width, 16)}} {head(facts.measures)}"
     for line in parts.zones:
-        yield f"{line.name:<{max(width, 16)}} {line.sums.told(facts.measures)}"
+        yield f"{line.name:<{max(width, 16)}} {line.sums.text(facts.measures)}"
 
 
 def bench_lines(facts: Facts) -> Iterator[str]:
@@ -93,15 +93,15 @@ def bench_lines(facts: Facts) -> Iterator[str]:
 
 
 def nested_lines(facts: Facts) -> Iterator[str]:
-    """The cash flow by nested pit, or why there is none."""
+    """Yields the cash flow by nested pit, or the reason why there is none."""
     parts = pit_parts(facts)
     if parts is None:
         return
     if parts.why_not:
-        yield f"NESTED PITS are left out: {parts.why_not}"
+        yield f"NESTED PITS are omitted: {parts.why_not}"
         return
-    yield ("NESTED PITS by factor of the price: what each adds to that before it, at the price of "
-           f"factor 1, undiscounted{_currency(facts)}")
+    yield ("NESTED PITS by factor of the price: what each adds to the pit before it, at the price "
+           f"of factor 1, undiscounted{_currency(facts)}")
     yield from _flows(facts, f"{'factor':>8}", [f"{line.name:>8}" for line in parts.nested],
                       parts.nested)
 
@@ -111,7 +111,7 @@ def _currency(facts: Facts) -> str:
 
 
 def _flows(facts: Facts, first: str, names: Sequence[str], lines: Sequence[Line]) -> Iterator[str]:
-    """Ore and waste of each line, what they are worth and cost, and the sum down to it; below
+    """Yields ore and waste of each line, their worth and cost, and the sum down to it; below
     `first`, the names of the lines."""
     yield (f"{first} {'ore, t':>15} {'waste, t':>15} {'value of ore':>19} {'cost of waste':>19} "
            f"{'cash flow':>19} {'cumulative':>19}")
@@ -124,5 +124,5 @@ def _flows(facts: Facts, first: str, names: Sequence[str], lines: Sequence[Line]
 
 
 def cumulative(lines: Sequence[Line]) -> np.ndarray:
-    """The value of all lines down to each, (n,), in units of 100 of what the plan counts."""
+    """Returns the value of all lines down to each, (n,), in units of 100 of the plan's money."""
     return np.cumsum([line.sums.value for line in lines])

@@ -22,14 +22,14 @@ COLOURS = ("#0b3c8c", "#111111", "#7b1fa2", "#00695c", "#b34700")
 
 
 def facts_of_blocks(plan_path: str, base: str) -> Facts:
-    """What a section shows of a plan and an instance, of which the block file alone is read."""
+    """The parts of a plan and an instance that a section shows: only the block file is read."""
     blocks = read_blocks(base + ".blocks")
     return Facts(read_plan(plan_path), blocks, np.zeros(len(blocks), np.int64),
                  Outline({}, np.zeros((len(blocks), 1)), 0, []), note=read_note(plan_path))
 
 
 def plane_of(facts: Facts, word: str) -> Plane:
-    """The plane of a word, as y=2320. It raises UserError for what is none."""
+    """Returns the plane of a text, as y=2320. It raises UserError for any other text."""
     axis, _, metres = word.partition("=")
     place = number_of(metres.strip())
     if axis not in ("x", "y", "z") or place is None:

@@ -1,5 +1,5 @@
-"""The survey as text: LOOK AT, and then the numbers part by part (docs/planners.md says what each
-is)."""
+"""The survey as text: LOOK AT, and then the numbers part by part (docs/planners.md explains
+each)."""
 from __future__ import annotations
 
 from dataclasses import asdict
@@ -14,7 +14,7 @@ from pit_tools.plans.slopes import too_steep_by_rise
 from pit_tools.surveys.facts import Facts, Rock
 from pit_tools.surveys.look_at import look_at, notes, tonnes_covered, unlike_plan
 from pit_tools.surveys.pit import bench_lines, nested_lines, zone_lines
-from pit_tools.texts.spelling import shortest, with_commas
+from pit_tools.texts.number_texts import shortest, with_commas
 
 #: Grams of a troy ounce, and kilograms of a pound.
 OUNCE, POUND = 31.1034768, 0.45359237
@@ -29,8 +29,8 @@ def survey_text(facts: Facts) -> str:
 
 
 def survey_record(facts: Facts) -> dict[str, Any]:
-    """What scripts read of a survey: tonnes, grades in g/t, metal in g, kilograms in a pit, and
-    values in units of 100 of what the plan counts."""
+    """Returns what scripts read of a survey: tonnes, grades in g/t, metal in g, kilograms in a pit,
+    and values in units of 100 of the plan's money."""
     rock = {name: {**asdict(one), "grade": one.grade} for name, one in
             zip([*facts.zone_names, "all"], [*facts.of_zone, facts.of_all])}
     pit = None
@@ -57,7 +57,7 @@ def _look_at(facts: Facts) -> Iterator[str]:
     for finding in findings:
         yield f"- {finding.part}: {finding.told}"
     if not findings:
-        yield "- nothing odd was found; the parts below say what was understood"
+        yield "- nothing unusual was found; the parts below show how the plan was understood"
 
 
 def _notes(facts: Facts) -> Iterator[str]:
@@ -80,8 +80,8 @@ def _places(facts: Facts) -> Iterator[str]:
                f"{axis.taken - axis.odd:7} {axis.odd:7}   {' to '.join(ends)} m")
     empty, most = facts.gaps
     yield (f"{with_commas(len(facts))} blocks at {with_commas(facts.box)} places; "
-           f"{with_commas(empty)} places below a block have none, at most {most} of a column in a "
-           "row")
+           f"{with_commas(empty)} places below a block have none, at most {most} of a column in "
+           "a row")
 
 
 def _rock_line(facts: Facts, label: str, rock: Rock, lines: Optional[int], name: str = "") -> str:
@@ -111,8 +111,8 @@ def _rock(facts: Facts) -> Iterator[str]:
 
 
 def cut_offs(facts: Facts) -> np.ndarray:
-    """Grades to cut at, round in the unit in which they are reported: 0, and some eight up to
-    near the highest, among them those that pay."""
+    """Returns cut-off grades, round in the unit in which they are reported: 0, and about eight up
+    to near the highest, among them those that pay."""
     grade = facts.measures.grade
     top = grade(facts.of_all.top_grade)
     if top <= 0:
@@ -178,7 +178,7 @@ def _slopes(facts: Facts) -> Iterator[str]:
     for number, zone in enumerate(facts.plan.zones):
         walls, arcs = wall.measured(facts.plan.grid, zone), facts.arcs[facts.blocks.zone == number]
         yield f"zone {number} asks   " + "".join(f" {angle:5.1f}"
-                                                 for angle in walls.asked[wall.EIGHT])
+                                                 for angle in walls.requested[wall.EIGHT])
         mean = with_commas(arcs.mean(), 2) if len(arcs) else "-"
         yield (f"  K = {zone.benches:2} gives"
                + "".join(f" {angle:5.1f}" for angle in walls.given[zone.benches][wall.EIGHT]) + " "
@@ -187,9 +187,9 @@ def _slopes(facts: Facts) -> Iterator[str]:
     for (own, other), count in facts.contacts.below.items():
         yield (f"zone {own} below zone {other}, which is steeper: {with_commas(count)} of its "
                "blocks are fewer than K benches below that")
-    for (own, other), count in facts.contacts.beside.items():
-        yield (f"zone {own} beside zone {other}, which is steeper: the cones of "
-               f"{with_commas(count)} of its blocks go into that")
+    for (own, other), count in facts.contacts.adjacent.items():
+        yield (f"zone {own} next to zone {other}, which is steeper: the cones of "
+               f"{with_commas(count)} of its blocks extend into that")
 
 
 def _heights(facts: Facts) -> Iterator[str]:
@@ -213,7 +213,7 @@ def _sides(facts: Facts) -> Iterator[str]:
 
 def _pit(facts: Facts, pit: Optional[np.ndarray]) -> Iterator[str]:
     if pit is None:
-        yield "the ultimate pit was not sought, since it would take minutes: give one by --pit"
+        yield "the ultimate pit was not computed, since it would take minutes: give one by --pit"
         return
     sums = pit_sums(facts, pit)
     yield (f"the ultimate pit: {with_commas(sums.blocks)} blocks, {with_commas(sums.ore, 1)} t of "
@@ -273,7 +273,7 @@ def _best_for(facts: Facts) -> Iterator[str]:
            "pit is worth more")
     cheapest = min(plan.destinations, key=lambda one: one.cost)
     yield (f"waste, rock of 0 {facts.measures.grade_unit}, is worth "
-           f"{facts.cost_told(-cheapest.cost)} a tonne, at {cheapest.name}")
+           f"{facts.cost_text(-cheapest.cost)} a tonne, at {cheapest.name}")
 
 
 def spans(periods: Sequence[int]) -> str:
@@ -287,7 +287,7 @@ def spans(periods: Sequence[int]) -> str:
     return ", ".join(str(first) if first == last else f"{first} to {last}" for first, last in runs)
 
 
-def _limit_told(limit: Optional[Limit], tonnes: float) -> str:
+def _limit_text(limit: Optional[Limit], tonnes: float) -> str:
     if limit is None:
         return "any tonnes"
     least = "" if limit.lower is None else with_commas(float(limit.lower), 1)
@@ -311,10 +311,11 @@ def _resources(facts: Facts) -> Iterator[str]:
         tonnes = tonnes_covered(facts, number)
         yield (f"{number} {resource.name} covers{covered}{', and not' + others if others else ''}; "
                f"{with_commas(tonnes, 1)} t are best there")
-        told: dict[str, list[int]] = {}
+        by_text: dict[str, list[int]] = {}
         for period in range(plan.periods):
-            told.setdefault(_limit_told(plan.limits_of(number, period), tonnes), []).append(period)
-        for text, periods in told.items():
+            by_text.setdefault(_limit_text(plan.limits_of(number, period), tonnes),
+                               []).append(period)
+        for text, periods in by_text.items():
             yield f"    period {spans(periods)}: {text}"
 
 

@@ -1,4 +1,4 @@
-"""A look at the pit and its ore in three dimensions: a canvas and a script, without a network."""
+"""A view of the pit and its ore in three dimensions: a canvas and a script, without a network."""
 from __future__ import annotations
 
 import json
@@ -11,7 +11,7 @@ from pit_tools.pits.shells import outer_faces
 from pit_tools.surveys.facts import Facts
 from pit_tools.surveys.pictures import GRADE_COLOURS, grade_ends, grade_legend
 
-#: Columns up to which each is drawn; of more, one of so many.
+#: The number of columns up to which each is drawn; of more, a fraction.
 MOST_COLUMNS = 6000
 
 #: Faces of ore up to which each block is drawn; of more, cells of several blocks.
@@ -104,8 +104,8 @@ def view(facts: Facts) -> str:
     """The ground with the pit dug, and the ore of the pit by grade, to be turned by a pointer;
     lengths and heights have one scale."""
     names = {"ground": "ground with the pit dug", "ore": "ore of the pit, by grade"}
-    boxes = "".join(f'<label><input type="checkbox" id="view-{name}" checked> {told}</label>\n'
-                    for name, told in names.items())
+    boxes = "".join(f'<label><input type="checkbox" id="view-{name}" checked> {message}</label>\n'
+                    for name, message in names.items())
     data = {**_ground(facts), "ore": _ore(facts)}
     return (f'<p class="view">{boxes}{_legend(facts)}</p>\n<canvas id="view"></canvas>\n'
             f"<script>{SCRIPT % json.dumps(data)}</script>\n")
@@ -120,12 +120,13 @@ def _legend(facts: Facts) -> str:
 
 
 def _first_class(facts: Facts) -> int:
-    """The first shade of ore: what pays nowhere has one of its own, if there is one."""
+    """Returns the first shade of ore: what pays nowhere has its own, if there is one."""
     return int(any(one.break_even for one in facts.plan.destinations))
 
 
 def _ground(facts: Facts) -> dict[str, Any]:
-    """The height of each column's top in metres, with the pit dug, and whether it is mined."""
+    """Returns the height of each column's top in metres, with the pit dug, and whether it is
+    mined."""
     heights = facts.ground()
     mined = np.zeros(heights.shape, dtype=bool)
     if facts.pit is not None and facts.pit.any():
@@ -142,8 +143,8 @@ def _ground(facts: Facts) -> dict[str, Any]:
 
 
 def _ore(facts: Facts) -> dict[str, Any]:
-    """The outer faces of the pit's ore: place, way and class of grade of each; where there are too
-    many, of cells of several blocks, which are ore where half of their places are."""
+    """Returns the outer faces of the pit's ore: cell, direction and class of grade of each; if
+    there are too many, of cells of several blocks, which are ore if half of their blocks are."""
     is_ore = ~np.array(facts.is_waste_place)[facts.best] & (facts.blocks.tonnes > 0)
     is_ore &= facts.pit if facts.pit is not None else False
     colours = [[int(colour[at:at + 2], 16) for at in (1, 3, 5)] for colour in GRADE_COLOURS]
@@ -156,13 +157,14 @@ def _ore(facts: Facts) -> dict[str, Any]:
 
 
 def _faces_of_ore(facts: Facts, is_ore: np.ndarray, step: int) -> np.ndarray:
-    """Faces of cells of so many blocks along each axis: x, y, z, way, class, (f, 5)."""
+    """Returns faces of cells with a number of blocks along each axis: x, y, z, direction, class,
+    (f, 5)."""
     if not is_ore.any():
         return np.empty((0, 5), dtype=np.int64)
     places = np.stack([(facts.indices(axis)[is_ore] - facts.axes[axis].least) // step
                        for axis in range(3)], axis=1).astype(np.int64)
-    room = places.max(axis=0) + 1
-    cells, at, count = np.unique(np.ravel_multi_index(places.T, room), return_inverse=True,
+    shape = places.max(axis=0) + 1
+    cells, at, count = np.unique(np.ravel_multi_index(places.T, shape), return_inverse=True,
                                  return_counts=True)
     tonnes, grades = facts.blocks.tonnes[is_ore], facts.blocks.grade[is_ore]
     grade = np.bincount(at, tonnes * grades) / np.bincount(at, tonnes)
@@ -170,8 +172,8 @@ def _faces_of_ore(facts: Facts, is_ore: np.ndarray, step: int) -> np.ndarray:
     kept = 2 * count >= step ** 3 if step > 1 else count > 0
     if not kept.any():
         return np.empty((0, 5), dtype=np.int64)
-    kind_at = np.full(room, -1, dtype=np.int8)
-    shown = np.stack(np.unravel_index(cells[kept], room), axis=1)
+    kind_at = np.full(shape, -1, dtype=np.int8)
+    shown = np.stack(np.unravel_index(cells[kept], shape), axis=1)
     kind_at[tuple(shown.T)] = np.maximum(kinds[kept], _first_class(facts))
     found = [(those, np.full(len(those), 2 * axis + (way < 0)), kind_at[tuple(those.T)])
              for axis, way, those in outer_faces(shown)]

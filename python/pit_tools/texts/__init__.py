@@ -1,1 +1,1 @@
-"""Numbers, units and lines as texts spell them, and the ranges of the formats."""
+"""Numbers, units and lines as texts, and the ranges of the formats."""

@@ -1,5 +1,5 @@
-"""Computes what a formula's code gives for the rows of a table, by numpy: each step of the code is
-looked at, and none is run."""
+"""Computes the values of a formula's code for the rows of a table, by numpy: each step of the code
+is interpreted, and none is run."""
 from __future__ import annotations
 
 import ast
@@ -46,70 +46,71 @@ def code_name(text: str) -> str:
 
 
 def called(node: ast.AST) -> str:
-    """The function that a part of the code calls by its name, or an empty text where it calls
+    """Returns the function that a part of the code calls by its name, or an empty text if it calls
     none."""
     return node.func.id if isinstance(node, ast.Call) and isinstance(node.func, ast.Name) else ""
 
 
 def listed(node: ast.expr) -> list[ast.expr]:
-    """What stands in a list. Raises TypeError if the node is none."""
+    """Returns the values of a list. Raises TypeError for any other node."""
     if not isinstance(node, (ast.List, ast.Tuple)):
-        raise TypeError("`in` goes with a list, as ('ORE', 'WASTE')")
+        raise TypeError("`in` needs a list, as ('ORE', 'WASTE')")
     return node.elts
 
 
 def is_constant(node: ast.AST) -> bool:
-    """Whether a part of the code has no column."""
+    """Returns whether a part of the code has no column."""
     return not any(isinstance(one, ast.Name) and one.id.startswith("_at")
                    for one in ast.walk(node))
 
 
 class Rows:
-    """Columns by their names in code: `known` has NaN where a cell says that nothing is known,
-    `standing` the numbers as they stand."""
+    """Columns by their names in code: `known` has NaN for a missing value, `unchanged` the numbers
+    unchanged."""
 
-    def __init__(self, known: Mapping[str, np.ndarray], standing: Mapping[str, np.ndarray]) -> None:
-        self.known, self.standing = known, standing
+    def __init__(self, known: Mapping[str, np.ndarray],
+                 unchanged: Mapping[str, np.ndarray]) -> None:
+        self.known, self.unchanged = known, unchanged
 
     def value(self, node: ast.AST) -> Any:
-        """What a part of the code gives: an array, or one number or text."""
+        """Returns the value of a part of the code: an array, or one number or text."""
         with np.errstate(all="ignore"):
             return self._of(node)
 
     def summed(self, node: ast.AST) -> tuple[Any, Any]:
-        """The same, where a missing term of an outermost sum adds nothing to the others, also of a
-        sum that is multiplied with or divided by a number; and where such a term is missing beside
-        one that is not."""
+        """Returns the same, with missing terms of an outermost sum adding nothing to the others,
+        also in a sum that is multiplied with or divided by a number; and a mask of the rows where
+        such a term is missing and another is not."""
         if isinstance(node, ast.UnaryOp) and isinstance(node.op, ast.USub):
-            found, lacks = self.summed(node.operand)
-            return -found, lacks
+            found, misses = self.summed(node.operand)
+            return -found, misses
         if isinstance(node, ast.BinOp) and isinstance(node.op, (ast.Mult, ast.Div)):
             is_left = not is_constant(node.left)
             if is_constant(node.right) == is_left and (is_left or isinstance(node.op, ast.Mult)):
-                found, lacks = self.summed(node.left if is_left else node.right)
+                found, misses = self.summed(node.left if is_left else node.right)
                 with np.errstate(all="ignore"):
                     other = self._of(node.right if is_left else node.left)
-                    return OPERATORS[type(node.op)](found, other), lacks
+                    return OPERATORS[type(node.op)](found, other), misses
         if not isinstance(node, ast.BinOp) or not isinstance(node.op, (ast.Add, ast.Sub)):
             return self.value(node), False
-        left, left_lacks = self.summed(node.left)
-        right, right_lacks = self.summed(node.right)
+        left, left_misses = self.summed(node.left)
+        right, right_misses = self.summed(node.right)
         right = -right if isinstance(node.op, ast.Sub) else right
-        lacks = left_lacks | right_lacks
+        misses = left_misses | right_misses
         if is_constant(node.left) or is_constant(node.right):
-            return left + right, lacks
-        no_left, no_right = np.isnan(left), np.isnan(right)
-        return (np.where(no_left, right, np.where(no_right, left, left + right)),
-                lacks | (no_left ^ no_right))
+            return left + right, misses
+        left_missing, no_right = np.isnan(left), np.isnan(right)
+        return (np.where(left_missing, right, np.where(no_right, left, left + right)),
+                misses | (left_missing ^ no_right))
 
     def holds(self, node: ast.AST) -> np.ndarray:
-        """Whether a condition holds: numbers are as they stand, but where it asks whether they are
-        missing."""
+        """Returns whether a condition holds: numbers are unchanged, except if it asks whether they
+        are missing."""
         asked = {one.id for call in ast.walk(node) if called(call) == "missing"
                  for one in ast.walk(call) if isinstance(one, ast.Name)}
-        columns = {name: column if name in asked else self.standing.get(name, column)
+        columns = {name: column if name in asked else self.unchanged.get(name, column)
                    for name, column in self.known.items()}
-        return np.asarray(Rows(columns, self.standing).value(node), bool)
+        return np.asarray(Rows(columns, self.unchanged).value(node), bool)
 
     def _of(self, node: ast.AST) -> Any:
         if isinstance(node, ast.Constant):
@@ -123,7 +124,7 @@ class Rows:
         if isinstance(node, ast.BinOp):
             sides = self._of(node.left), self._of(node.right)
             if any(isinstance(side, str) for side in sides):
-                raise TypeError("a text is compared with others, and nothing is computed of it")
+                raise TypeError("a text is compared with others, but not computed with")
             return OPERATORS[type(node.op)](*sides)
         if isinstance(node, ast.BoolOp):
             holds = [np.asarray(self._of(one), bool) for one in node.values]
@@ -136,7 +137,7 @@ class Rows:
             return self._where(node.test, node.body, node.orelse)
         if isinstance(node, ast.Call):
             return self._called(node)
-        raise TypeError(f"no formula has {type(node).__name__}")
+        raise TypeError(f"a formula cannot have {type(node).__name__}")
 
     def _compared(self, node: ast.Compare) -> Any:
         left = self._of(node.left)

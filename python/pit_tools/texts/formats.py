@@ -5,7 +5,7 @@ import re
 
 NAME = re.compile(r"[A-Za-z0-9_.-]{1,64}")
 
-#: What it is, for who gave one that is none.
+#: The description of a name, for a message about one that is invalid.
 WHAT_A_NAME_IS = "1 to 64 letters, digits, `_`, `-` and `.`"
 
 #: Bytes of a plan.

@@ -1,10 +1,10 @@
 """Formulas over the columns of a table: `SG*XINC*YINC*ZINC`, `(AU + CU*0.9)`, `CLASS <= 3 and ROCK
 != "AIR"`.
 
-A column's name stands as its header has it, in any case, also with blanks and signs; the longest
-name is taken. One that cannot stand so stands between backquotes. Behind a formula there may be a
-unit. `where(CONDITION, THIS, THAT)`, also written as `if(..)`, chooses; its condition sees numbers
-as they stand, -99 too, and `missing(COLUMN)` is one. `formula_values` computes formulas."""
+A column's name is written as in its header, in any case, also with blanks and punctuation; the
+longest name is used. Other names are written between backquotes. A unit may follow a formula.
+`where(CONDITION, THIS, THAT)`, also written as `if(..)`, chooses; its condition sees numbers
+unchanged, also -99, and `missing(COLUMN)` is one. `formula_values` computes formulas."""
 from __future__ import annotations
 
 import ast
@@ -30,11 +30,11 @@ MOST_SHOWN = 200
 # How long a formula may be, and the names that a name that is missing is compared with.
 MOST_TEXT, LIKE = 10_000, 100
 
-# How deep parts of a formula may stand in one another, as each term of a sum in those before it.
+# How deep parts of a formula may be nested, as each term of a sum in those before it.
 MOST_DEPTH = 200
 
 
-class Lacking(UserError):
+class MissingColumn(UserError):
     """A formula has a name that is no column."""
 
     def __init__(self, name: str, names: Sequence[str]) -> None:
@@ -68,7 +68,7 @@ def short_name(text: str) -> str:
 
 
 def places_of(names: Sequence[str]) -> dict[str, list[int]]:
-    """Where each name stands; by its short form too, if no column has that whole."""
+    """Positions of each name; also of its short form, if no column has that as its name."""
     found: dict[str, list[int]] = {}
     for at, name in enumerate(names):
         if plain_name(name):
@@ -92,13 +92,13 @@ class Formula:
 
     @property
     def plain_column(self) -> Optional[int]:
-        """The column that it is, if it is nothing else."""
+        """Returns the column that it is, if it is nothing else."""
         return (self.columns[0]
                 if len(self.columns) == 1 and self.code == column_name(self.columns[0]) else None)
 
     @property
     def divides(self) -> bool:
-        """Whether it may have no value, as where it divides by 0."""
+        """Returns whether it may have no value, as in a division by 0."""
         return any(isinstance(node, (ast.Div, ast.FloorDiv, ast.Mod, ast.Call))
                    for node in ast.walk(ast.parse(self.code, mode="eval")))
 
@@ -117,33 +117,33 @@ class Formula:
         return any(isinstance(node, ast.Compare) or called(node) == "missing"
                    for node in ast.walk(_body(self.code)))
 
-    def value(self, table: pd.DataFrame, standing: Optional[pd.DataFrame] = None) -> pd.Series:
-        """What it gives for the rows of a table with its columns _at0, _at1, .. as numbers,
-        NaN if one is missing; `standing` has them as they stand, for conditions. A term of its
-        outermost sum that is missing adds nothing to the others; where all are missing, so is
-        the sum."""
-        return self.summed(table, standing)[0]
+    def value(self, table: pd.DataFrame, unchanged: Optional[pd.DataFrame] = None) -> pd.Series:
+        """Returns its values for the rows of a table with its columns _at0, _at1, .. as numbers,
+        NaN for a missing one; `unchanged` has them unchanged, for conditions. A missing term of its
+        outermost sum adds nothing to the others; if all are missing, so is the sum."""
+        return self.summed(table, unchanged)[0]
 
     def summed(self, table: pd.DataFrame,
-               standing: Optional[pd.DataFrame] = None) -> tuple[pd.Series, np.ndarray]:
-        """The same, and where a term is missing and another is not, bool."""
+               unchanged: Optional[pd.DataFrame] = None) -> tuple[pd.Series, np.ndarray]:
+        """Returns the same, and a mask of the rows where a term is missing and another is not,
+        bool."""
         def summed(rows: Rows) -> tuple[np.ndarray, Any]:
-            found, lacks = rows.summed(_body(self.code))
-            return np.asarray(found, float), lacks
-        found, lacks = self._computed(summed, table, table if standing is None else standing)
+            found, misses = rows.summed(_body(self.code))
+            return np.asarray(found, float), misses
+        found, misses = self._computed(summed, table, table if unchanged is None else unchanged)
         return (pd.Series(np.broadcast_to(found, len(table)), index=table.index),
-                np.broadcast_to(np.asarray(lacks, bool), len(table)))
+                np.broadcast_to(np.asarray(misses, bool), len(table)))
 
-    def holds(self, table: pd.DataFrame, standing: pd.DataFrame) -> Any:
-        """Whether it holds of each row, as an array; texts of the tables are those of
+    def holds(self, table: pd.DataFrame, unchanged: pd.DataFrame) -> Any:
+        """Returns whether it holds for each row, as an array; texts of the tables are those of
         `code_name`."""
-        return self._computed(lambda rows: rows.holds(_body(self.code)), table, standing)
+        return self._computed(lambda rows: rows.holds(_body(self.code)), table, unchanged)
 
     def _computed(self, of: Callable[[Rows], Any], table: pd.DataFrame,
-                  standing: pd.DataFrame) -> Any:
+                  unchanged: pd.DataFrame) -> Any:
         try:
             return of(Rows(*({name: one[name].to_numpy() for name in one}
-                             for one in (table, standing))))
+                             for one in (table, unchanged))))
         except (TypeError, ValueError, AttributeError, OverflowError) as error:
             raise UserError(f"`{self.text[:MOST_SHOWN]}` cannot be computed: "
                             f"{' '.join(str(error).split())}") from None
@@ -154,11 +154,11 @@ def _body(code: str) -> ast.expr:
 
 
 def formula_of(text: str, names: Sequence[str]) -> Formula:
-    """A formula over these columns. It raises Lacking for a name that is none of them, UserError
-    for one of two columns and for a text that is no formula."""
+    """Reads a formula over these columns. It raises MissingColumn for an unknown name, UserError
+    for a name of two columns and for a text that is not a formula."""
     if len(text) > MOST_TEXT:
-        raise UserError(f"`{text[:MOST_SHOWN]}..` has more than {MOST_TEXT:,} characters, and is "
-                        "no formula")
+        raise UserError(f"`{text[:MOST_SHOWN]}..` has more than {MOST_TEXT:,} characters, so it is "
+                        "not a formula")
     places = places_of(names)
     columns: list[int] = []
     lengths = sorted({len(name) for name in places}, reverse=True)
@@ -171,7 +171,7 @@ def formula_of(text: str, names: Sequence[str]) -> Formula:
             inner = folded[at + 1:end]
             if quote == "`":
                 if plain_name(inner) not in places:
-                    raise Lacking(inner, names)
+                    raise MissingColumn(inner, names)
                 code += _column(plain_name(inner), places, columns)
             else:
                 code += folded[at:end + 1]
@@ -188,7 +188,7 @@ def formula_of(text: str, names: Sequence[str]) -> Formula:
 
 
 def _name_at(text: str, at: int, names: Container[str], lengths: Sequence[int]) -> Optional[str]:
-    """The longest name that stands here, its ends being no part of a longer word."""
+    """Returns the longest name at this position, if its ends are not inside a longer word."""
     if at and _is_in_word(text[at - 1:at + 1]):
         return None
     for end in (at + length for length in lengths if at + length <= len(text)):
@@ -199,19 +199,19 @@ def _name_at(text: str, at: int, names: Container[str], lengths: Sequence[int]) 
 
 
 def _is_in_word(two: str) -> bool:
-    """Whether two characters are both of a word."""
+    """Returns whether two characters both belong to a word."""
     return len(two) == 2 and all(one.isalnum() or one == "_" for one in two)
 
 
 def _column(name: str, places: dict[str, list[int]], columns: list[int]) -> str:
     if len(places[name]) > 1:
-        raise UserError(f"two columns `{name}`: rename the one that is not meant")
+        raise UserError(f"two columns are named `{name}`: rename one of them")
     columns.append(places[name][0])
     return column_name(places[name][0])
 
 
 def _checked(code: str, text: str, names: Sequence[str]) -> str:
-    """The code, if it is a formula over columns alone."""
+    """Returns the code, if it is a formula over columns only."""
     code = code.strip()
     text = text if len(text) <= MOST_SHOWN else text[:MOST_SHOWN] + ".."
     own = {column_name(at) for at in range(len(names))}
@@ -220,32 +220,32 @@ def _checked(code: str, text: str, names: Sequence[str]) -> str:
         words = [word for word in re.findall(r"[^\W\d]\w*", code)
                  if word not in own and word not in ARGUMENTS and word != "if"]
         if words:
-            raise Lacking(text.strip() if re.fullmatch(r"[\w ]+", text.strip()) else words[0],
-                          names) from None
-        raise UserError(f"`{text}` is no formula")
+            raise MissingColumn(text.strip() if re.fullmatch(r"[\w ]+", text.strip()) else words[0],
+                                names) from None
+        raise UserError(f"`{text}` is not a formula")
     if _depth_of(tree) > MOST_DEPTH:
-        raise UserError(f"`{text}` has more than {MOST_DEPTH} parts in one another: add a column "
-                        "to the export in its place")
+        raise UserError(f"`{text}` has more than {MOST_DEPTH} nested parts: add a column to the "
+                        "export in its place")
     calls = {id(node.func) for node in ast.walk(tree) if isinstance(node, ast.Call)}
     for node in ast.walk(tree):
         is_call = isinstance(node, ast.Call)
         if not isinstance(node, ALLOWED) or is_call and not called(node):
-            raise UserError(f"`{text}` is no formula: it may have columns, numbers, + - * / ** // "
-                            "%, parentheses and where(CONDITION, THIS, THAT)")
+            raise UserError(f"`{text}` is not a formula: it may have columns, numbers, + - * / ** "
+                            "// %, parentheses and where(CONDITION, THIS, THAT)")
         if isinstance(node, ast.Call):
             _judge_call(node, text)
         if isinstance(node, ast.Name) and id(node) not in calls and node.id not in own:
-            raise Lacking(node.id, names)
+            raise MissingColumn(node.id, names)
         if (isinstance(node, (ast.List, ast.Tuple))
                 and not all(isinstance(one, ast.Constant) for one in node.elts)):
-            raise UserError(f"`{text}`: a list has numbers or texts alone")
+            raise UserError(f"`{text}`: a list may only have numbers or texts")
         if isinstance(node, ast.Constant) and not isinstance(node.value, (int, float, str)):
-            raise UserError(f"`{text}` is no formula: `{node.value}` is no number")
+            raise UserError(f"`{text}` is not a formula: `{node.value}` is not a number")
     return ast.unparse(tree)
 
 
 def _depth_of(tree: ast.AST) -> int:
-    """How deep the parts of the code stand in one another."""
+    """Returns how deep the parts of the code are nested."""
     depth, level = 0, [tree]
     while level:
         depth, level = depth + 1, [part for node in level for part in ast.iter_child_nodes(node)]
@@ -260,17 +260,17 @@ def _tree_of(code: str) -> Optional[ast.Expression]:
 
 
 def _judge_call(node: ast.Call, text: str) -> None:
-    """Stops at a function that is none, or has other arguments."""
+    """Stops at an unknown function, or at wrong arguments."""
     name = called(node)
     if name not in ARGUMENTS:
-        raise UserError(f"`{text}`: no function `{name}`: there are {', '.join(ARGUMENTS)}")
+        raise UserError(f"`{text}`: no function `{name}`: give {', '.join(ARGUMENTS)}")
     if len(node.args) != ARGUMENTS[name] or node.keywords:
         raise UserError(f"`{text}`: {name} has {ARGUMENTS[name]} arguments: where(CONDITION, THIS, "
                         "THAT), missing(COLUMN)")
 
 
 def number_columns(formula: Formula) -> tuple[set[int], set[int]]:
-    """The columns that are read as numbers, and those that are compared with texts. Raises
+    """Returns the columns that are read as numbers, and those that are compared with texts. Raises
     UserError if one is both."""
     numbers: set[int] = set()
     texts: set[int] = set()

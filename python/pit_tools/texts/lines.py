@@ -1,7 +1,7 @@
 """Lines of files as other programs write them: some megabytes at a time, each with its number.
 
 A byte order mark, CR, comments from `%` on and a last line `EOF` are dropped, and a comma is a
-blank. What is no number, or none that can be held, is refused with its line.
+blank. Anything but a number that a double represents is an error with its line.
 """
 from __future__ import annotations
 
@@ -19,11 +19,11 @@ import pandas as pd
 
 from pit_tools.errors import UserError, quoted
 from pit_tools.files import inputs
-from pit_tools.texts.decimals import fault_of, may_be_misread, whole_of
-from pit_tools.texts.spelling import EXACT, FEWEST, NotHeld, nearest
+from pit_tools.texts.decimals import error_of, may_be_misread, integer_of
+from pit_tools.texts.number_texts import EXACT, FEWEST, NotHeld, nearest
 
 #: Bytes that are read at a time, and that a line may have.
-_PIECE = 1 << 22
+_CHUNK = 1 << 22
 LONGEST = 1 << 26
 
 #: Characters of a line of few fields, and bytes of a file of such lines.
@@ -34,7 +34,7 @@ _END = re.compile(rb"(?im)^[ \t]*eof[ \t]*$")
 
 
 class Told:
-    """What was changed or omitted, a line of words each."""
+    """Changes and omissions, one line each."""
 
     def __init__(self) -> None:
         self.lines: list[str] = []
@@ -43,17 +43,18 @@ class Told:
         """Adds a line."""
         self.lines.append(text)
 
-    def tell_rows(self, pieces: Iterable["Piece"], row: int, count: int, text: str) -> None:
-        """Adds a line on so many rows, of which `row` is the first one in these pieces."""
-        piece, row = _piece_of(pieces, row)
-        number, _ = piece.line_of(row)
+    def report_rows(self, chunks: Iterable["Chunk"], row: int, count: int, text: str) -> None:
+        """Adds a line about `count` rows, of which `row` is the first one in these parts."""
+        chunk, row = _chunk_of(chunks, row)
+        number, _ = chunk.line_of(row)
         more = f" and {count - 1} more" if count > 1 else ""
-        self.tell(f"{os.path.basename(piece.path)}: line {number}{more}: {text}")
+        self.tell(f"{os.path.basename(chunk.path)}: line {number}{more}: {text}")
 
 
 @dataclass(frozen=True)
-class Piece:
-    """Whole lines of a file with LF behind each; its rows are those that have a field."""
+class Chunk:
+    """Complete lines of a file, each with LF at its end; its rows are the lines that have a
+    field."""
 
     path: str
     first: int  #: the number of its first line, counted from 1
@@ -72,26 +73,26 @@ class Piece:
                 return line
         raise IndexError(row)
 
-    def refuse(self, row: int, told: str) -> NoReturn:
+    def reject(self, row: int, told: str) -> NoReturn:
         """Raises UserError for a row, with its line."""
         number, text = self.line_of(row)
         raise UserError(f"{self.path}: line {number}: {told}: {quoted(text)}")
 
     def whole(self, numbers: np.ndarray, what: str, least: int = 0,
               most: int = 2**31 - 1) -> np.ndarray:
-        """Numbers of its rows as int32.
+        """Returns numbers of its rows as int32.
 
-        Raises UserError, with the line, if one is not whole or lies outside.
+        Raises UserError, with the line, if one is not an integer or out of range.
         """
         is_wrong = (numbers != np.floor(numbers)) | (numbers < least) | (numbers > most)
         if is_wrong.any():
             row = int(is_wrong.argmax())
-            self.refuse(row, f"{what} is {numbers[row]:.15g}, and no whole number from {least} to "
+            self.reject(row, f"{what} is {numbers[row]:.15g}, not an integer from {least} to "
                              f"{most}")
         return numbers.astype(np.int32)
 
-    def at_keys(self) -> Iterator[tuple["Piece", bool]]:
-        """Its lines with a colon, and what stands between them: whether it is such a line."""
+    def at_keys(self) -> Iterator[tuple["Chunk", bool]]:
+        """Yields its lines with a colon, and the parts between them: whether it is such a line."""
         done, number = 0, self.first
         while done < len(self.text):
             colon = self.text.find(b":", done)
@@ -99,37 +100,37 @@ class Piece:
             is_key = start == done and colon >= 0
             end = (self.text.find(b"\n", colon) + 1 if is_key else start if colon >= 0
                    else len(self.text))
-            yield Piece(self.path, number, self.text[done:end]), is_key
+            yield Chunk(self.path, number, self.text[done:end]), is_key
             number += self.text.count(b"\n", done, end)
             done = end
 
-    def between(self, start: int, end: int) -> "Piece":
-        """The lines between two places of its text, each behind a line end."""
-        return Piece(self.path, self.first + self.text.count(b"\n", 0, start), self.text[start:end])
+    def between(self, start: int, end: int) -> "Chunk":
+        """Returns the lines between two positions of its text, each after a line end."""
+        return Chunk(self.path, self.first + self.text.count(b"\n", 0, start), self.text[start:end])
 
 
-def _piece_of(pieces: Iterable[Piece], row: int) -> tuple[Piece, int]:
-    """The piece that has a row of all pieces, and which of its rows that is."""
-    for piece in pieces:
-        rows = len(line_lengths(piece.text))
+def _chunk_of(chunks: Iterable[Chunk], row: int) -> tuple[Chunk, int]:
+    """Returns the part that has a row of all parts, and the index of the row there."""
+    for chunk in chunks:
+        rows = len(line_lengths(chunk.text))
         if row < rows:
-            return piece, row
+            return chunk, row
         row -= rows
     raise IndexError(row)
 
 
-def refuse_row(pieces: Iterable[Piece], row: int, told: str) -> NoReturn:
-    """Raises UserError for a row of all these pieces, with its line."""
-    piece, row = _piece_of(pieces, row)
-    piece.refuse(row, told)
+def reject_row(chunks: Iterable[Chunk], row: int, told: str) -> NoReturn:
+    """Raises UserError for a row of all these parts, with its line."""
+    chunk, row = _chunk_of(chunks, row)
+    chunk.reject(row, told)
 
 
 def numbered_lines(path: str, most: int = MOST_LINE) -> Iterator[tuple[int, str]]:
-    """The lines of a text in UTF-8 that the command reads, with their numbers from 1 on. A mark at
-    the front is dropped.
+    """Yields the lines of a text in UTF-8 that the command reads, with their numbers from 1 on. A
+    mark at the start is dropped.
 
-    Raises UserError, with the line, if it has more than `most` characters, or the file more than
-    2 GB; OSError if the file cannot be read.
+    Raises UserError, with the line, if it has more than `most` characters, or the file more than 2
+    GB; OSError if the file cannot be read.
     """
     inputs.reads(path)
     with open(path, encoding="utf-8-sig", errors="replace") as file:
@@ -149,11 +150,12 @@ def numbered_lines(path: str, most: int = MOST_LINE) -> Iterator[tuple[int, str]
 
 
 def block_lines(path: str) -> Iterator[tuple[int, Optional[int], list[str]]]:
-    """The lines of a pit or a schedule that have fields: their numbers, the block that begins
-    each, None if that is none, and the fields. Raises UserError as `numbered_lines` does."""
+    """Yields the lines of a pit or a schedule that have fields: their numbers, the block that
+    begins each, None if it is not a block, and the fields. Raises UserError as `numbered_lines`
+    does."""
     for number, line in numbered_lines(path):
         if fields := line.split():
-            yield number, whole_of(fields[0]), fields
+            yield number, integer_of(fields[0]), fields
 
 
 def opened(path: str) -> BinaryIO:
@@ -165,15 +167,15 @@ def opened(path: str) -> BinaryIO:
         raise UserError(f"cannot open {path}: {error.strerror}") from None
 
 
-def whole_lines(path: str) -> Iterator[bytes]:
-    """The bytes of a file, cut at line ends, without a mark at the front.
+def complete_lines(path: str) -> Iterator[bytes]:
+    """Yields the bytes of a file, cut at line ends, without a mark at the start.
 
     Raises UserError if it cannot be opened and, with the line, if one is longer than 64 MB.
     """
     with opened(path) as file:
         rest, number = file.read(3), 1
         rest = b"" if rest == b"\xef\xbb\xbf" else rest
-        while more := file.read(_PIECE):
+        while more := file.read(_CHUNK):
             cut = more.rfind(b"\n") + 1
             if cut:
                 number += rest.count(b"\n") + more.count(b"\n")
@@ -187,29 +189,29 @@ def whole_lines(path: str) -> Iterator[bytes]:
             yield rest + b"\n"
 
 
-def pieces_of(path: str, is_own: bool = False) -> Iterator[Piece]:
-    """The lines of a file. In one of `pitc`, `is_own`, a comment is a whole line, a comma is no
-    blank, and `EOF` ends nothing.
+def chunks_of(path: str, is_own: bool = False) -> Iterator[Chunk]:
+    """Yields the lines of a file. In a file of `pitc`, `is_own`, a comment is a complete line, a
+    comma is not a blank, and `EOF` ends nothing.
 
-    Raises UserError if it cannot be opened, is no text, or has lines behind `EOF`.
+    Raises UserError if it cannot be opened, is not text, or has lines after `EOF`.
     """
     number, has_ended = 1, False
-    for text in whole_lines(path):
+    for text in complete_lines(path):
         count = text.count(b"\n")
         if b"\0" in text:
-            raise UserError(f"{path}: it has bytes of 0: no text of ASCII or UTF-8")
-        piece = Piece(path, number, _own(text) if is_own else _plain(text))
+            raise UserError(f"{path}: it has bytes of 0, so it is not text of ASCII or UTF-8")
+        chunk = Chunk(path, number, _own(text) if is_own else _plain(text))
         may_end = not is_own and (b"f" in text or b"F" in text)
-        if end := _END.search(piece.text) if may_end else None:
-            behind = piece.between(end.end() + 1, len(piece.text))
-            piece, has_ended = piece.between(0, end.start()), True
+        if end := _END.search(chunk.text) if may_end else None:
+            behind = chunk.between(end.end() + 1, len(chunk.text))
+            chunk, has_ended = chunk.between(0, end.start()), True
         elif has_ended:
-            piece, behind = Piece(path, number, b""), piece
+            chunk, behind = Chunk(path, number, b""), chunk
         if has_ended and behind.text.strip():
-            behind.refuse(0, "it stands behind EOF")
+            behind.reject(0, "it follows EOF")
         number += count
-        if piece.text.strip():
-            yield piece
+        if chunk.text.strip():
+            yield chunk
 
 
 def _own(text: bytes) -> bytes:
@@ -238,7 +240,8 @@ def line_lengths(text: bytes) -> np.ndarray:
 
 
 def integers_of(text: bytes) -> np.ndarray:
-    """The integers of a text, int64, with blanks between; none of them if one is none."""
+    """Returns the integers of a text, int64, with blanks between; none of them if one field is not
+    an integer."""
     with warnings.catch_warnings():
         warnings.simplefilter("error", DeprecationWarning)
         try:
@@ -247,27 +250,27 @@ def integers_of(text: bytes) -> np.ndarray:
             return np.empty(0, dtype=np.int64)
 
 
-def numbers_of(piece: Piece, fields: Sequence[int], what: str,
+def numbers_of(chunk: Chunk, fields: Sequence[int], what: str,
                length: Optional[int] = None) -> np.ndarray:
-    """The numbers of some fields of each row, float64 (fields, rows); fields count from 0.
+    """Returns the numbers of some fields of each row, float64 (fields, rows); fields count from 0.
 
-    Raises UserError, with the line, if a row has not `length` fields or lacks one of these, and
-    where one is no number, infinite, NaN, or so small that it would become 0.
+    Raises UserError, with the line, if a row does not have `length` fields or misses one of these,
+    or if one is not a number, infinite, NaN, or so small that it would become 0.
     """
-    lengths = line_lengths(piece.text)
+    lengths = line_lengths(chunk.text)
     last = max(fields)
     is_wrong = lengths <= last if length is None else lengths != length
     if is_wrong.any():
         wanted = f"at least {last + 1}" if length is None else str(length)
         row = int(is_wrong.argmax())
-        piece.refuse(row, f"{lengths[row]} fields, and {what} has {wanted}")
-    is_hard = may_be_misread(piece.text)
+        chunk.reject(row, f"{lengths[row]} fields, but {what} has {wanted}")
+    is_hard = may_be_misread(chunk.text)
     if is_hard:
-        _look_at_each(piece, fields, what)
-    # Of a fixed length all fields are taken: pandas then refuses a row with more, as control
-    # bytes make one. With `usecols` it would drop them.
+        _look_at_each(chunk, fields, what)
+    # With a fixed length all fields are read: pandas then rejects a row with more, as control bytes
+    # make one. With `usecols` it would drop them.
     try:
-        table = pd.read_csv(io.BytesIO(piece.text), sep=r"\s+", header=None, dtype=float,
+        table = pd.read_csv(io.BytesIO(chunk.text), sep=r"\s+", header=None, dtype=float,
                             names=range(max(last + 1, int(lengths.max()))), index_col=False,
                             usecols=None if length else sorted(set(fields)), na_filter=False,
                             quoting=csv.QUOTE_NONE,
@@ -276,29 +279,29 @@ def numbers_of(piece: Piece, fields: Sequence[int], what: str,
     except (ValueError, OverflowError, pd.errors.ParserError):
         found = np.full((1, 1), np.nan)
     if not np.isfinite(found).all():
-        _look_at_each(piece, fields, what)
-        raise UserError(f"{piece.path}: {what} in lines from {piece.first} on cannot be read")
+        _look_at_each(chunk, fields, what)
+        raise UserError(f"{chunk.path}: {what} in lines from {chunk.first} on cannot be read")
     return found
 
 
-def _look_at_each(piece: Piece, fields: Sequence[int], what: str) -> None:
-    """Refuses the first row with a field that is no number which can be held."""
-    for row, (_, line) in enumerate(piece.lines()):
+def _look_at_each(chunk: Chunk, fields: Sequence[int], what: str) -> None:
+    """Rejects the first row with a field that a double does not represent."""
+    for row, (_, line) in enumerate(chunk.lines()):
         cells = line.split()
         for field in fields:
             cell = "".join(cells[field:field + 1])
-            if fault := fault_of(cell):
-                piece.refuse(row, f"field {field + 1} of {what}, {quoted(cell)}, is {fault}")
+            if fault := error_of(cell):
+                chunk.reject(row, f"field {field + 1} of {what}, {quoted(cell)}, is {fault}")
 
 
 def _first_row(is_it: np.ndarray) -> int:
-    """The first row in which one of (rows,) or (columns, rows) is it."""
+    """Returns the first row where one of (rows,) or (columns, rows) is true."""
     return int(np.atleast_2d(is_it).any(axis=0).argmax())
 
 
 class Rounding:
-    """Rounds numbers to decimals, and counts those that had more. A number above some nine billion
-    keeps two, where six could not be told apart."""
+    """Rounds numbers to decimals, and counts those that had more. A number above about nine billion
+    keeps two, since six could not be distinguished."""
 
     def __init__(self, decimals: int):
         self.decimals = decimals
@@ -306,7 +309,7 @@ class Rounding:
         self.count = 0
         self.first = 0
 
-    def of(self, piece: Piece, numbers: np.ndarray, what: str) -> np.ndarray:
+    def of(self, chunk: Chunk, numbers: np.ndarray, what: str) -> np.ndarray:
         """The numbers (rows,) or (columns, rows), each as the float nearest to its decimals.
 
         Raises UserError, with the line, if one is too great for them.
@@ -315,7 +318,7 @@ class Rounding:
             rounded, is_off = nearest(numbers, self.decimals)
         except NotHeld:
             is_wrong = np.abs(numbers) * 10**FEWEST >= EXACT
-            piece.refuse(_first_row(is_wrong), f"{what} is too great to be held")
+            chunk.reject(_first_row(is_wrong), f"{what} is too large")
         if is_off.any():
             if not self.count:
                 self.first = self.rows + _first_row(is_off)
@@ -323,10 +326,10 @@ class Rounding:
         self.rows += numbers.shape[-1]
         return rounded
 
-    def tell(self, pieces: Iterable[Piece], what: str, told: Optional[Told]) -> None:
-        """Tells how many were rounded, if one was; raises UserError if there is no `told`."""
+    def tell(self, chunks: Iterable[Chunk], what: str, told: Optional[Told]) -> None:
+        """Reports how many were rounded, if one was; raises UserError if there is no `told`."""
         if self.count and told is None:
-            refuse_row(pieces, self.first, f"a number has more than {self.decimals} decimals")
+            reject_row(chunks, self.first, f"a number has more than {self.decimals} decimals")
         if self.count and told is not None:
-            told.tell_rows(pieces, self.first, self.count,
-                           f"{what} rounded to {self.decimals} decimals")
+            told.report_rows(chunks, self.first, self.count,
+                             f"{what} rounded to {self.decimals} decimals")

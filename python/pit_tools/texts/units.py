@@ -1,8 +1,8 @@
-"""Names of units behind a column or a number, as `AU oz/st` or `1804 USD/oz`, and what they are in
+"""Names of units after a column or a number, as `AU oz/st` or `1804 USD/oz`, and their factors to
 the units of `pitc`.
 
-`pitc` takes metres, tonnes and grams a tonne. A name that is read in two ways stands in AMBIGUOUS,
-and is refused."""
+`pitc` uses metres, tonnes and grams per tonne. A name with two meanings is in AMBIGUOUS, and is
+rejected."""
 from __future__ import annotations
 
 import re
@@ -46,21 +46,21 @@ GRADES = {"g/t": Decimal(1), "gpt": Decimal(1), "ppm": Decimal(1), "g/tonne": De
           "%": Decimal(10_000), "pct": Decimal(10_000), "oz/st": TROY_OUNCE / SHORT_TON,
           "oz/tonne": TROY_OUNCE, "lb/tonne": POUND * 1000, "lb/st": POUND * 1000 / SHORT_TON}
 
-# Parts of a whole.
+# Shares.
 SHARES = {"%": Decimal("0.01"), "pct": Decimal("0.01"), "share": Decimal(1)}
 
-# The value of a tonne, where the grade is a net smelter return.
+# The value of a tonne, if the grade is a net smelter return.
 MONEY = ("usd", "aud", "cad", "eur", "gbp", "zar", "clp", "pen", "brl", "cny", "$", "€")
 
 AMBIGUOUS = {
-    "oz/t": "an ounce a tonne is `oz/tonne`, an ounce a short ton `oz/st`",
-    "opt": "an ounce a tonne is `oz/tonne`, an ounce a short ton `oz/st`",
-    "oz/ton": "an ounce a tonne is `oz/tonne`, an ounce a short ton `oz/st`",
+    "oz/t": "an ounce per tonne is `oz/tonne`, an ounce per short ton `oz/st`",
+    "opt": "an ounce per tonne is `oz/tonne`, an ounce per short ton `oz/st`",
+    "oz/ton": "an ounce per tonne is `oz/tonne`, an ounce per short ton `oz/st`",
     "mt": "a tonne is `t`, a million of them 1000 `kt`",
     "ton": "a tonne is `t`, a short ton `st`, a long ton `lt`",
     "tons": "a tonne is `t`, a short ton `st`, a long ton `lt`",
-    "lb/t": "a pound a short ton is `lb/st`, a pound a tonne `lb/tonne`",
-    "lb/ton": "a pound a short ton is `lb/st`, a pound a tonne `lb/tonne`",
+    "lb/t": "a pound per short ton is `lb/st`, a pound per tonne `lb/tonne`",
+    "lb/ton": "a pound per short ton is `lb/st`, a pound per tonne `lb/tonne`",
 }
 
 TABLES = {"length": LENGTHS, "mass": MASSES, "volume": VOLUMES, "density": DENSITIES,
@@ -69,9 +69,9 @@ TABLES = {"length": LENGTHS, "mass": MASSES, "volume": VOLUMES, "density": DENSI
 
 @dataclass(frozen=True)
 class Measures:
-    """In what a planner is reported of a plan and its instance: the currency, empty if it is
-    not known; in how many parts of a cent the plan counts money; and the unit of grades,
-    `g/t`, `%`, or money a tonne."""
+    """The units in which a planner reads reports of a plan and its instance: the currency, empty if
+    it is unknown; the parts of a cent in which the plan counts money; and the unit of grades,
+    `g/t`, `%`, or money per tonne."""
 
     currency: str = ""
     parts: int = 1
@@ -83,15 +83,15 @@ class Measures:
             raise UserError(f"no measures: {self.currency}, {self.parts}, {self.grade_unit}")
 
     def money(self, value: Numbers) -> Numbers:
-        """Money of the plan or its instance, in units of 100 of what the plan counts, as units of
-        the currency."""
+        """Returns money of the plan or its instance, in units of 100 of the plan's money, as units
+        of the currency."""
         return value / self.parts
 
     def grade(self, value: Numbers) -> Numbers:
         """A grade in g/t, or numbers of them, in the unit of grades."""
         return value / float(GRADES["%"]) if self.grade_unit == "%" else value
 
-    def cost_told(self, cents: float) -> str:
+    def cost_text(self, cents: float) -> str:
         """A price or a cost of the plan, as money."""
         return f"{self.money(cents / 100):,.2f}{self.unit}"
 
@@ -101,25 +101,25 @@ class Measures:
 
     @property
     def money_unit(self) -> str:
-        """In what values are, for the head of a column."""
+        """Returns the unit of values, for the head of a column."""
         return self.currency or "100 cents"
 
     @property
     def unit(self) -> str:
-        """The currency behind a number, with a blank before it."""
+        """Returns the currency to follow a number, with a blank before it."""
         return f" {self.currency}" if self.currency else ""
 
 
 def grade_unit_of(name: str) -> str:
-    """In what grades are reported that were read in a unit: percent and money a tonne stay,
-    all others are g/t."""
+    """Returns the unit in which grades are reported that were read in a unit: percent and money per
+    tonne stay, all others become g/t."""
     if is_money_a_tonne(name):
         return name.strip()
     return "%" if plain_name(name) in ("%", "pct") else "g/t"
 
 
 def plain_name(name: str) -> str:
-    """A unit's name without case, brackets and the signs for a power."""
+    """Returns a unit's name without case, brackets and the characters for a power."""
     name = (name.strip().strip("()[]").casefold().replace("³", "3").replace("^", "")
             .replace("tonnes", "t"))
     return {"feet": "ft", "foot": "ft", "'": "ft", "metres": "m", "meters": "m", "percent": "%",
@@ -127,23 +127,23 @@ def plain_name(name: str) -> str:
 
 
 def is_factor(name: str) -> bool:
-    """Whether it is a volume for a mass, by which a volume is divided: a tonnage factor."""
+    """Returns whether it is a volume per mass, by which a volume is divided: a tonnage factor."""
     return plain_name(name) in ("ft3/st", "m3/t")
 
 
 def factor_of(name: str, kind: str) -> Optional[Decimal]:
-    """What a unit of this kind (a key of TABLES) is in the unit of `pitc`, or None for no name of
-    one.
+    """Returns the factor of a unit of this kind (a key of TABLES) to the unit of `pitc`, or None
+    for an unknown name.
 
-    It raises UserError for a name that is read in two ways."""
+    It raises UserError for a name with two meanings."""
     name = plain_name(name)
     if name in AMBIGUOUS and kind in ("grade", "mass"):
-        raise UserError(f"`{name}` is read in two ways: {AMBIGUOUS[name]}")
+        raise UserError(f"`{name}` has two meanings: {AMBIGUOUS[name]}")
     return TABLES[kind].get(name)
 
 
 def is_money_a_tonne(name: str) -> bool:
-    """Whether it is money a tonne, as `USD/t`: then a grade is a net smelter return."""
+    """Returns whether it is money per tonne, as `USD/t`: then a grade is a net smelter return."""
     money, _, mass = plain_name(name).partition("/")
     return money in MONEY and mass == "t"
 
@@ -157,7 +157,7 @@ GRADE_ENDINGS = {"%": "%", "pct": "%", "perc": "%", "percent": "%", "pc": "%", "
                  "ppb": "ppb", "gpt": "g/t", "gt": "g/t", "kgt": "kg/t", "opt": "opt", "ozt": "ozt",
                  "ozst": "oz/st"}
 
-# Endings that are parts of other words: they are units behind an element alone.
+# Endings that are parts of other words: they are units only after an element.
 AFTER_ELEMENTS = ("pc", "gt", "kgt", "opt", "ozt", "ozst")
 
 ELEMENT = ("ag|al|as|au|b|ba|bi|c|ca|cd|ce|co|cr|cs|cu|f|fe|ga|ge|hg|in|k|la|li|mg|mn|mo|na|nb|nd|"
@@ -173,8 +173,8 @@ METALS = {"oz": "oz", "ozs": "oz", "ounces": "oz", "lb": "lb", "lbs": "lb", "pou
 
 
 def grade_unit_in(text: str) -> str:
-    """The unit of a grade that a header's cell names at its end, as `AU_PPB`, `Fe%`, `CUPC` or `Cu
-    (%)`, a key of GRADES or AMBIGUOUS_GRADES; else an empty text."""
+    """Returns the unit of a grade that a header's cell names at its end, as `AU_PPB`, `Fe%`, `CUPC`
+    or `Cu (%)`, a key of GRADES or AMBIGUOUS_GRADES; otherwise an empty text."""
     unit = named_in(text, "grade")
     if unit:
         return unit
@@ -183,9 +183,9 @@ def grade_unit_in(text: str) -> str:
     if len(words) > 1 and last in GRADE_ENDINGS:
         return GRADE_ENDINGS[last]
     for ending in sorted(GRADE_ENDINGS, key=len, reverse=True):
-        front = last[:-len(ending)]
-        if front and last.endswith(ending) and (ending not in AFTER_ELEMENTS
-                                                or re.fullmatch(ELEMENT, front)):
+        prefix = last[:-len(ending)]
+        if prefix and last.endswith(ending) and (ending not in AFTER_ELEMENTS
+                                                 or re.fullmatch(ELEMENT, prefix)):
             return GRADE_ENDINGS[ending]
     return ""
 
@@ -201,7 +201,7 @@ def metal_in(text: str) -> str:
 
 
 def named_in(text: str, kind: str) -> Optional[str]:
-    """The unit that a header's cell, as `AU_PPB` or `Cu (%)`, names at its end, or None."""
+    """Returns the unit that a header's cell, as `AU_PPB` or `Cu (%)`, names at its end, or None."""
     words = (text.replace("_", " ").replace("(", " ").replace(")", " ").replace("[", " ")
              .replace("]", " ").split())
     last = plain_name(words[-1]) if words else ""

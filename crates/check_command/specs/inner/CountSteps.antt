@@ -1,4 +1,4 @@
--- The counts of the texts of an instance, one file after the other.
+-- The counts of an instance's files, one file after the other.
 use Rattle.std.specs.Prelude.{ℕ, List, None, Some, Result, Ok}
 use Rattle.pit_units.specs.Steps.{◌>>=◌}
 use Rattle.minelib_reading.specs.FedCounts.{arcs_counted, blocks_counted, model_counted}
@@ -14,7 +14,7 @@ use Rattle.check_command.specs.declared.counts.Counts.{Counts}
 abbrev pub no_counts : Counts
 no_counts = record { blocks = 0; arcs = 0; coefficients = 0; limits = 0; cpit = None }
 
--- the counts so far, with those of the text of this file
+-- the counts so far, and the counts of this file's text
 unfoldable pub counted_in : TextFile → Counts → List ℕ → Result Counts LineFault
 counted_in Blocks c text = blocks_counted text >>= λ n. Ok (record c { blocks = n })
 counted_in Prec c text = arcs_counted c.blocks text >>= λ arcs. Ok (record c { arcs = arcs })
@@ -22,6 +22,6 @@ counted_in Pcpsp c text =
     model_counted problem.Pcpsp c.blocks text >>= λ x. Ok (record c { coefficients = x.0; limits = x.1 })
 counted_in Cpit c text = model_counted problem.Cpit c.blocks text >>= λ x. Ok (record c { cpit = Some x.0 })
 
--- the same, unless a line of the files before is faulty
+-- the same, unless a line of an earlier file is invalid
 unfoldable pub counted_on : TextFile → Result Counts TextFault → List ℕ → Result Counts TextFault
 counted_on file so_far text = so_far >>= λ c. in_file file (counted_in file c text)

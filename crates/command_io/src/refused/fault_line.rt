@@ -1,4 +1,4 @@
-//! The line that the program writes of a refusal, and the status that it ends with.
+//! The line that the program prints for an error, and the exit status.
 
 ghost use Rattle.std.specs.Prelude.{◌≡◌, ◌≤◌, ◌++◌, length, Ok, IfOk, IfErr, OnOk, OnErr};
 ghost use Rattle.pit_model.specs.Planned.{planned};
@@ -14,10 +14,10 @@ use pit_model::plan::Plan;
 use refusals::refusal::Refusal;
 use std::alloc::{AllocError, Global};
 
-/// The plan that a text states; or the status of its refusal, with the line of the fault appended to `lines`.
+/// Returns the plan that a text states. After an error, returns the exit status, and appends the error's line to `lines`.
 ///
-/// A text of more than 1,048,576 bytes is `plan: TooLong`. Where memory is refused, for the plan or for the line, the status is that of
-/// memory and `lines` is as it was.
+/// A text of more than 1,048,576 bytes is `plan: TooLong`. If memory is refused, for the plan or for the line, the status is 4 and
+/// `lines` is unchanged.
 #[tactic(auto, using(crate::proofs::Ends::no_plan_ends))]
 pub fn plan_from(alloc: Global, text: &[u8], lines: &mut Vec<u8>) -> Result<Plan, u8>
     ensures plan { IfOk result (λ plan. (length text.now ≤ MAX_PLAN_BYTES)
@@ -28,13 +28,13 @@ pub fn plan_from(alloc: Global, text: &[u8], lines: &mut Vec<u8>) -> Result<Plan
 {
     match stated_plan(alloc, text) {
         Ok(plan) => Ok(plan),
-        Err(refused) => Err(tell(alloc, &refused, lines)),
+        Err(refused) => Err(report(alloc, &refused, lines)),
     }
 }
 
-/// Appends the line of a refusal, and answers the status that it ends the program with. Where memory is refused, before or for the line,
-/// the status is that of memory and `lines` is as it was.
-pub fn tell(alloc: Global, refused: &Refused, lines: &mut Vec<u8>) -> u8
+/// Appends the line of an error, and returns the exit status. If memory is refused, before or for the line, the status is 4 and
+/// `lines` is unchanged.
+pub fn report(alloc: Global, refused: &Refused, lines: &mut Vec<u8>) -> u8
     ensures { Ends refused.now lines.old.items lines.new.items result }
 {
     if *refused == Refused::Run(Refusal::OutOfMemory) {
@@ -46,7 +46,7 @@ pub fn tell(alloc: Global, refused: &Refused, lines: &mut Vec<u8>) -> u8
     }
 }
 
-/// Appends the line of a refusal. Where memory is refused `lines` is as it was.
+/// Appends the line of an error. If memory is refused, `lines` is unchanged.
 pub fn append_line(alloc: Global, refused: &Refused, lines: &mut Vec<u8>) -> Result<(), AllocError>
     ensures ok { OnOk result
         (lines.new.items ≡ lines.old.items ++ program_line (refused_text refused.now)) }

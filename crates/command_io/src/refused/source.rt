@@ -1,9 +1,9 @@
-//! Where the program reads from.
+//! The sources of the program.
 
 use std::fmt;
 use text_lines::text_fault::TextFile;
 
-/// Where the program reads from.
+/// A source that the program reads.
 #[derive(Clone, Copy, Debug, PartialEq, Eq)]
 pub enum Source {
     /// Standard input.

@@ -1,18 +1,19 @@
 -- A feed before and after one pull: the bytes that it has left, the bytes that it gave, and the pulls that it refused.
-use Rattle.std.specs.Prelude.{◌≡◌, ℕ, ◌+◌, Bool, List, ◌++◌, Option, option_map, Result, IsTrue, IsOk, IfOk, OnOk, OnErr}
+use Rattle.std.specs.Prelude.{◌≡◌, ℕ, ◌+◌, List, ◌++◌, Option, option_map, Result, IsTrue, IsOk, IfOk, OnOk, OnErr}
+use Rattle.devices.specs.feeds.FeedState.{FeedState}
 
--- the bytes left before the feed gave `given`: these bytes, and then the bytes left now. A feed that reports no bytes reports none later
+-- the bytes left before the feed gave `given`: these bytes, followed by the bytes left now. A feed that reports no bytes reports none
+-- later
 abbrev pub put_back : List ℕ → Option (List ℕ) → Option (List ℕ)
-put_back given left = option_map (λ rest. given ++ rest) left
+put_back given remaining = option_map (λ rest. given ++ rest) remaining
 
--- after success, the given bytes are counted; after an error, no byte was given, and one more refused pull is counted. A sure feed never
--- fails
-pub record IsPulled {F E : Type 0} (left : F → Option (List ℕ)) (is_sure : F → Bool) (given failures : F → ℕ) (old new : F)
-    (answer : Result ℕ E) : Type 0 where
-  pub counts : IfOk answer (λ n. given new ≡ given old + n)
-  pub works : OnOk answer (failures new ≡ failures old)
-  pub refused_left : OnErr answer (left new ≡ left old)
-  pub refused_given : OnErr answer (given new ≡ given old)
-  pub fails : OnErr answer (failures new ≡ failures old + 1)
-  pub sure : IsTrue (is_sure old) → IsOk answer
-  pub stays_sure : IsTrue (is_sure old) → IsTrue (is_sure new)
+-- after success, the given bytes are counted; after an error, no byte was given, and one more refused pull is counted. An infallible feed
+-- never fails
+pub record IsPulled {E : Type 0} (old new : FeedState) (answer : Result ℕ E) : Type 0 where
+  pub counts : IfOk answer (λ n. new.given ≡ old.given + n)
+  pub works : OnOk answer (new.failures ≡ old.failures)
+  pub refused_remaining : OnErr answer (new.remaining ≡ old.remaining)
+  pub refused_given : OnErr answer (new.given ≡ old.given)
+  pub fails : OnErr answer (new.failures ≡ old.failures + 1)
+  pub sure : IsTrue old.is_sure → IsOk answer
+  pub stays_sure : IsTrue old.is_sure → IsTrue new.is_sure

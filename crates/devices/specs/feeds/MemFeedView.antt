@@ -3,7 +3,7 @@ use Rattle.std.specs.Prelude.{ℕ, ◌+◌, List, length, drop, min, Bool, ◌==
 
 pub record MemFeedView : Type 0 where
   -- the bytes that are left
-  pub left : List ℕ
+  pub remaining : List ℕ
   -- the number of bytes that it gave
   pub given : ℕ
   -- the largest number of bytes that a pull gives
@@ -15,16 +15,16 @@ pub record MemFeedView : Type 0 where
 
 -- a feed that was not pulled yet
 abbrev pub fresh : List ℕ → (step failing : ℕ) → MemFeedView
-fresh bytes step failing = record { left = bytes; given = 0; step = step; failing = failing; pulls = 0 }
+fresh bytes step failing = record { remaining = bytes; given = 0; step = step; failing = failing; pulls = 0 }
 
 -- the number of bytes that a pull gives to a buffer of this length, if it does not fail
 abbrev pub pull_count : MemFeedView → ℕ → ℕ
-pull_count s room = min (min room s.step) (length s.left)
+pull_count s room = min (min room s.step) (length s.remaining)
 
 -- the feed after one more pull, which gave n bytes
 abbrev pub after_pull : MemFeedView → ℕ → MemFeedView
 after_pull s n =
-    record { left = drop n s.left; given = s.given + n; step = s.step; failing = s.failing; pulls = min (s.pulls + 1) s.failing }
+    record { remaining = drop n s.remaining; given = s.given + n; step = s.step; failing = s.failing; pulls = min (s.pulls + 1) s.failing }
 
 -- no pull fails
 abbrev pub never_fails : MemFeedView → Bool

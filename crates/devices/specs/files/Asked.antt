@@ -1,4 +1,4 @@
--- What contracts see of the calls to a system: the files that were to be opened, and the slots that were made.
+-- The calls to a system, as contracts see them: the files that were requested, and the slots that were made.
 use Rattle.std.specs.Prelude.{ℕ, List, [], ◌∷◌, ◌++◌, Option}
 use Rattle.devices.specs.ShownBytes.{bytes_of}
 use Rattle.devices.specs.files.Opening.{Opening, Opened, Unopened}
@@ -7,12 +7,12 @@ use Rattle.devices.specs.declared.files.asked.Asked.TheVariants as asked
 use Rattle.devices.specs.declared.files.asked.Made.{Made}
 use Rattle.devices.specs.declared.files.asked.Made.TheVariants as made
 
--- the openings; the function gives the bytes that a file reports
+-- the openings; the function returns the bytes that a file reports
 abbrev pub openings_of : {F : Type 0} → (F → Option (List ℕ)) → Asked F → List Opening
-openings_of told asked.Nothing = []
-openings_of told (asked.Opened' path file marker before) =
-    openings_of told before ++ Opened (bytes_of path) (told file.value) ∷ []
-openings_of told (asked.Unopened' path marker before) = openings_of told before ++ Unopened (bytes_of path) ∷ []
+openings_of reported asked.Nothing = []
+openings_of reported (asked.Opened' path file marker before) =
+    openings_of reported before ++ Opened (bytes_of path) (reported file.value) ∷ []
+openings_of reported (asked.Unopened' path marker before) = openings_of reported before ++ Unopened (bytes_of path) ∷ []
 
 -- the paths of the slots
 abbrev pub paths_of : Made → List (List ℕ)

@@ -1,6 +1,6 @@
 -- What contracts see of a sink over a file.
 use Rattle.std.specs.Prelude.{◌≡◌, ℕ, List, [], Bool, true, false, Option}
-use Rattle.devices.specs.files.Told.{told_empty, told_held}
+use Rattle.devices.specs.files.Reported.{empty_report, held_report}
 use Rattle.devices.specs.sinks.SinkState.{SinkState}
 
 pub record FileSinkView : Type 0 where
@@ -15,15 +15,15 @@ pub record FileSinkView : Type 0 where
   -- the number of calls that it refused so far
   pub failures : ℕ
 
--- a sink for the file at this path, not begun yet; the flag says whether the file reports its bytes
+-- a sink for the file at this path, not begun yet; the flag decides whether the file reports its bytes
 abbrev pub unbegun : Bool → List ℕ → FileSinkView
-unbegun tells path = record { path = path; has_slot = true; begun = false; held = told_empty tells; failures = 0 }
+unbegun reports path = record { path = path; has_slot = true; begun = false; held = empty_report reports; failures = 0 }
 
 -- its state as a sink
-abbrev pub file_told : FileSinkView → SinkState
-file_told s = record { begun = s.begun; before = []; taken = s.held; failures = s.failures }
+abbrev pub file_sink_state : FileSinkView → SinkState
+file_sink_state s = record { begun = s.begun; before = []; taken = s.held; failures = s.failures }
 
 -- its file was created empty at this path, and holds these bytes, as far as files report their paths and bytes
 abbrev pub HoldsNewFile : {F : Type 0} → (F → List ℕ) → (F → Option (List ℕ)) → Bool → List ℕ → Option (List ℕ) → Type 0
-HoldsNewFile {F} path_of contents tells path held =
-    (file : F) × (path_of file ≡ path) × (told_held tells (contents file) ≡ told_empty tells) × (held ≡ told_held tells (contents file))
+HoldsNewFile {F} path_of contents reports path held =
+    (file : F) × (path_of file ≡ path) × (held_report reports (contents file) ≡ empty_report reports) × (held ≡ held_report reports (contents file))

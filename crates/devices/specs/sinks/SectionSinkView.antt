@@ -15,5 +15,5 @@ pub record SectionSinkView : Type 0 where
   pub failures : ℕ
 
 -- its state as a sink
-abbrev pub section_told : SectionSinkView → SinkState
-section_told s = record { begun = s.begun; before = s.before; taken = Some s.taken; failures = s.failures }
+abbrev pub section_sink_state : SectionSinkView → SinkState
+section_sink_state s = record { begun = s.begun; before = s.before; taken = Some s.taken; failures = s.failures }

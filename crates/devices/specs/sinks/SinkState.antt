@@ -1,6 +1,6 @@
 -- The state of a sink, before and after a text was written to it.
 use Rattle.std.specs.Prelude.{◌≡◌, ◌+◌, ◌<◌, ◌≤◌, ◌⊎◌, ℕ, List, length, take, Option, Bool, Result, IsTrue, IfOk, OnOk, OnErr}
-use Rattle.devices.specs.Device.{added, holding, IsFront}
+use Rattle.devices.specs.Device.{added, holding, IsTakenPrefix}
 
 pub record SinkState : Type 0 where
   -- whether it was begun
@@ -25,13 +25,13 @@ pub record IsUntouched (old new : SinkState) : Type 0 where
   pub taken : new.taken ≡ old.taken
 
 -- it was begun, and holds a prefix of this text
-pub record HoldsFront (text : List ℕ) (old new : SinkState) : Type 0 where
+pub record HoldsPrefix (text : List ℕ) (old new : SinkState) : Type 0 where
   pub begun : IsTrue new.begun
-  pub taken : IsFront new.taken (holding text old.taken)
+  pub taken : IsTakenPrefix new.taken (holding text old.taken)
 
 -- the sink refused `more` calls. It is untouched, or it holds a prefix of the text
 pub record IsCutOff (more : ℕ) (text : List ℕ) (old new : SinkState) : Type 0 where
-  pub stands : IsUntouched old new ⊎ HoldsFront text old new
+  pub stands : IsUntouched old new ⊎ HoldsPrefix text old new
   pub before : new.before ≡ old.before
   pub fails : new.failures ≡ old.failures + more
 

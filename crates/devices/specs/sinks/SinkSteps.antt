@@ -1,6 +1,6 @@
 -- The state of a sink before and after one step of a writer, which may keep bytes in a buffer.
 use Rattle.std.specs.Prelude.{◌≡◌, ◌+◌, ℕ, List}
-use Rattle.devices.specs.Device.{added, IsFront}
+use Rattle.devices.specs.Device.{added, IsTakenPrefix}
 use Rattle.devices.specs.declared.sinks.sink.SinkFault.{SinkFault}
 use Rattle.pit_units.specs.declared.or_memory.OrMemory.{OrMemory}
 use Rattle.pit_units.specs.declared.or_memory.OrMemory.TheVariants.{Fault, OutOfMemory}
@@ -14,7 +14,7 @@ pub record IsAppended (text before after : List ℕ) (old new : SinkState) : Typ
 
 -- the sink refused `more` calls, and holds a prefix of the taken bytes, the buffer and the text
 pub record IsAppendCut (more : ℕ) (text before : List ℕ) (old new : SinkState) : Type 0 where
-  pub front : IsFront new.taken (added text (added before old.taken))
+  pub prefix : IsTakenPrefix new.taken (added text (added before old.taken))
   pub fails : new.failures ≡ old.failures + more
   pub still : IsBegunAsBefore old new
 

@@ -9,15 +9,15 @@ pub record WriteSinkView : Type 0 where
   pub failures : ℕ
 
 -- the report of an output, dropped if it reported nothing at first
-abbrev pub told_as : Option (List ℕ) → Option (List ℕ) → Option (List ℕ)
-told_as None now = None
-told_as (Some first) now = now
+abbrev pub report_as_before : Option (List ℕ) → Option (List ℕ) → Option (List ℕ)
+report_as_before None now = None
+report_as_before (Some first) now = now
 
 -- it still reports its bytes if it did at first
-abbrev pub TellsOn : Option (List ℕ) → Option (List ℕ) → Type 0
-TellsOn None now = Unit {0}
-TellsOn (Some first) now = is_some now ≡ true
+abbrev pub StillReports : Option (List ℕ) → Option (List ℕ) → Type 0
+StillReports None now = Unit {0}
+StillReports (Some first) now = is_some now ≡ true
 
 -- its state as a sink
-abbrev pub write_told : WriteSinkView → SinkState
-write_told s = record { begun = true; before = []; taken = s.held; failures = s.failures }
+abbrev pub write_sink_state : WriteSinkView → SinkState
+write_sink_state s = record { begun = true; before = []; taken = s.held; failures = s.failures }

@@ -1,4 +1,4 @@
--- What a writer did to a sink, for each result.
+-- The effect of a writer on a sink, for each result.
 use Rattle.std.specs.Prelude.{◌<◌, ℕ, List, length, Result, MatchResult}
 use Rattle.devices.specs.sinks.SinkState.{SinkState, IsWritten, IsCutOff}
 use Rattle.devices.specs.sinks.SinkSteps.{refusals, IsAppended, IsAppendCut}
@@ -20,7 +20,7 @@ pub record IsWrittenOn (text before after : List ℕ) (old new : SinkState) : Ty
   pub appended : IsAppended text before after old new
   pub room : HasRoom before → HasRoom after
 
--- after `Ok`, the text was written; after an error, writing was cut short
+-- after `Ok`, the text was written; after an error, writing was cut off
 abbrev pub WritesOn : List ℕ → List ℕ → List ℕ → SinkState → SinkState → Result (Unit {0}) (OrMemory SinkFault) → Type 0
 WritesOn text before after old new result =
     MatchResult result (λ _. IsWrittenOn text before after old new)

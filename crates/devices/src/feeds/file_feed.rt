@@ -3,6 +3,8 @@
 ghost use Rattle.std.specs.Io.KnownBytes.{ReadConsumes};
 ghost use Rattle.std.specs.Prelude.{◌≡◌, ◌+◌, ◌<◌, ◌≤◌, ◌++◌, [], ◌∷◌, false, length, take, IfOk, IfSome, OnOk, OnErr};
 ghost use Rattle.devices.specs.feeds.Feed.{put_back, IsPulled};
+ghost use Rattle.devices.specs.feeds.FeedState.{not_pulled};
+ghost use Rattle.devices.specs.feeds.FileFeedView.{file_state};
 ghost use Rattle.devices.specs.files.Opening.{Opened, Unopened};
 
 use crate::feeds::feed::{Feed, FeedFault};
@@ -23,19 +25,19 @@ pub struct FileFeed<F: Read + AtPath> {
 
 impl<F: Read + AtPath> Model for FileFeed<F> {
     ghost use Rattle.std.specs.Prelude.{◌≡◌, ◌+◌};
-    ghost use Rattle.devices.specs.feeds.FeedSteps.{left_after};
+    ghost use Rattle.devices.specs.feeds.FeedSteps.{remaining_after};
     ghost use Rattle.devices.specs.feeds.FileFeedView.{FileFeedView};
 
     ghost Value = { FileFeedView };
 
     ghost view = { λ f. record {
       path = F.path f.first.value;
-      left = f.file.left;
+      remaining = f.file.remaining;
       given = F.given f.first.value + f.file.given;
       failures = f.file.failures;
     } };
 
-    ghost invariant = { λ f. f.file.left ≡ left_after f.file.given (F.remaining f.first.value) };
+    ghost invariant = { λ f. f.file.remaining ≡ remaining_after f.file.given (F.remaining f.first.value) };
 }
 
 impl<F: Read + AtPath + Drop> FileFeed<F> {
@@ -50,13 +52,11 @@ impl<F: Read + AtPath + Drop> FileFeed<F> {
     ) -> Result<FileFeed<F>, FeedFault>
         ensures path { IfOk result (λ feed. feed.path ≡ path.now) }
         ensures opened { IfOk result (λ feed. A.opened files.new
-            ≡ A.opened files.old ++ Opened path.now feed.left ∷ []) }
+            ≡ A.opened files.old ++ Opened path.now feed.remaining ∷ []) }
         ensures refused { OnErr result (A.opened files.new ≡ A.opened files.old ++ Unopened path.now ∷ []) }
-        ensures left { IfOk result (λ feed. (file : F) × (F.path file ≡ path.now)
-            × (F.given file ≡ 0) × (feed.left ≡ F.remaining file)) }
-        ensures given { IfOk result (λ feed. ⟦<FileFeed<F> as Feed>⟧.given feed ≡ 0) }
-        ensures failures { IfOk result (λ feed. ⟦<FileFeed<F> as Feed>⟧.failures feed ≡ 0) }
-        ensures unsure { IfOk result (λ feed. ⟦<FileFeed<F> as Feed>⟧.is_sure feed ≡ false) }
+        ensures remaining { IfOk result (λ feed. (file : F) × (F.path file ≡ path.now)
+            × (F.given file ≡ 0) × (feed.remaining ≡ F.remaining file)) }
+        ensures state { IfOk result (λ feed. ⟦<FileFeed<F> as Feed>⟧.state feed ≡ not_pulled false feed.remaining) }
     {
         match files.open(path) {
             Ok(file) => Ok(FileFeed {
@@ -69,30 +69,23 @@ impl<F: Read + AtPath + Drop> FileFeed<F> {
 }
 
 impl<F: Read + AtPath + Drop> Feed for FileFeed<F> {
-    ghost left = { λ f. f.left };
-
-    ghost given = { λ f. f.given };
-
-    ghost failures = { λ f. f.failures };
-
-    ghost is_sure = { λ _. false };
+    ghost state = { file_state };
 
     /// Gives the bytes of one read of the file. Repeats a read that a signal interrupts.
     fn pull(&mut self, buffer: &mut [u8]) -> Result<usize, FeedFault>
         // The effect on the file.
         ensures path { self.new.path ≡ self.old.path }
-        ensures reads { ReadConsumes self.old.left self.new.left result buffer.new }
+        ensures reads { ReadConsumes self.old.remaining self.new.remaining result buffer.new }
 
         // After success, the buffer starts with the next bytes.
         ensures within { IfOk result (λ n. n ≤ length buffer.old) }
         ensures gives { IfOk result
-            (λ n. self.old.left ≡ put_back (take n buffer.new) self.new.left) }
+            (λ n. self.old.remaining ≡ put_back (take n buffer.new) self.new.remaining) }
         ensures end { IfOk result
-            (λ n. n ≡ 0 → 0 < length buffer.old → IfSome self.old.left (λ bytes. bytes ≡ [])) }
+            (λ n. n ≡ 0 → 0 < length buffer.old → IfSome self.old.remaining (λ bytes. bytes ≡ [])) }
 
         // Given bytes and refused pulls are counted. After an error, no byte was given.
-        ensures pulls { IsPulled (λ f. f.left) (λ _. false) (λ f. f.given) (λ f. f.failures)
-            self.old self.new result }
+        ensures pulls { IsPulled (file_state self.old) (file_state self.new) result }
     {
         self.file.pull(buffer)
     }

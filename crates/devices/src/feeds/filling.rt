@@ -2,7 +2,7 @@
 
 ghost use Rattle.std.specs.Prelude.{◌≡◌, ◌+◌, ◌<◌, ◌≤◌, ◌^◌, [], length, max, take, vec_len, IfOk, OnOk, IfSome};
 ghost use Rattle.devices.specs.declared.feeds.filling.TheConstants.{CHUNK};
-ghost use Rattle.devices.specs.feeds.FeedSteps.{GaveBehind};
+ghost use Rattle.devices.specs.feeds.FeedSteps.{GaveAfter};
 ghost use Rattle.devices.specs.feeds.Feed.{IsPulled};
 
 use crate::feeds::feed::{Feed, FeedFault};
@@ -11,8 +11,8 @@ use std::alloc::AllocError;
 /// The largest number of bytes by which a buffer grows at a time.
 pub const CHUNK: usize = 262_144;
 
-/// Makes room for a byte after the first `filled`, within the first `most`. The capacity doubles, so that a long feed is copied a bounded
-/// number of times; bytes are initialised only as far as the next read needs. If memory is refused, the list is unchanged.
+/// Ensures capacity for a byte after the first `filled`, within the first `most`. The capacity doubles, so that a long feed is copied a
+/// bounded number of times; bytes are initialised only as far as the next read needs. If memory is refused, the list is unchanged.
 pub fn make_room(bytes: &mut Vec<u8>, filled: usize, most: usize) -> Result<(), AllocError>
     requires filled { filled ≤ vec_len bytes.old }
     requires within { vec_len bytes.old ≤ most }
@@ -32,8 +32,8 @@ pub fn make_room(bytes: &mut Vec<u8>, filled: usize, most: usize) -> Result<(), 
 }
 
 /// Pulls at most `most` bytes into a buffer, after its first `filled`. If the device fails, no byte was given.
-#[tactic(auto, using(crate::proofs::Giving::gave_behind))]
-pub fn pull_behind<F: Feed>(
+#[tactic(auto, using(crate::proofs::Giving::gave_after))]
+pub fn pull_after<F: Feed>(
     feed: &mut F,
     buffer: &mut [u8],
     filled: usize,
@@ -45,14 +45,14 @@ pub fn pull_behind<F: Feed>(
     // After success, the next bytes follow the filled ones, which are unchanged.
     ensures most { IfOk result (λ count. count ≤ most) }
     ensures within { IfOk result (λ count. filled + count ≤ length buffer.new) }
-    ensures gave { IfOk result (λ count. GaveBehind count filled buffer.old buffer.new
-        (F.left feed.old) (F.left feed.new)) }
-    ensures front { take filled buffer.new ≡ take filled buffer.old }
+    ensures gave { IfOk result (λ count. GaveAfter count filled buffer.old buffer.new
+        (F.state feed.old).remaining (F.state feed.new).remaining) }
+    ensures prefix { take filled buffer.new ≡ take filled buffer.old }
     ensures end { IfOk result (λ count. count ≡ 0
-        → IfSome (F.left feed.old) (λ bytes. bytes ≡ [])) }
+        → IfSome (F.state feed.old).remaining (λ bytes. bytes ≡ [])) }
 
     // Given bytes and refused pulls are counted. After an error, no byte was given.
-    ensures pulls { IsPulled F.left F.is_sure F.given F.failures feed.old feed.new result }
+    ensures pulls { IsPulled (F.state feed.old) (F.state feed.new) result }
 {
     let end = filled + most.min(buffer.len() - filled);
     feed.pull(&mut buffer[filled..end])

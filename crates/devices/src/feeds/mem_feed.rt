@@ -23,7 +23,7 @@ impl Model for MemFeed {
     ghost Value = { MemFeedView };
 
     ghost view = { λ f. record {
-      left = drop f.given f.bytes.items;
+      remaining = drop f.given f.bytes.items;
       given = f.given;
       step = f.step;
       failing = f.failing;
@@ -73,22 +73,16 @@ impl MemFeed {
 }
 
 impl Feed for MemFeed {
-    ghost left = { λ f. Some f.left };
-
-    ghost given = { λ f. f.given };
-
-    ghost failures = { failures_of };
-
-    ghost is_sure = { never_fails };
+    ghost state = { λ f. record { remaining = Some f.remaining; given = f.given; failures = failures_of f; is_sure = never_fails f } };
 
     /// Gives the bytes left, at most the buffer's length and the feed's step, except in the pull that fails.
     fn pull(&mut self, buffer: &mut [u8]) -> Result<usize, FeedFault>
         ensures fails { IsErr result ↔ (self.old.pulls + 1 ≡ self.old.failing) }
         ensures refused { OnErr result (self.new ≡ after_pull self.old 0) }
         ensures count { IfOk result (λ n. n ≡ pull_count self.old (length buffer.old)) }
-        ensures end { IfOk result (λ n. n ≡ 0 → 0 < length buffer.old → self.old.left ≡ []) }
-        ensures gives { IfOk result (λ n. take n buffer.new ≡ take n self.old.left) }
-        ensures goes_on { IfOk result (λ n. self.new ≡ after_pull self.old n) }
+        ensures end { IfOk result (λ n. n ≡ 0 → 0 < length buffer.old → self.old.remaining ≡ []) }
+        ensures gives { IfOk result (λ n. take n buffer.new ≡ take n self.old.remaining) }
+        ensures continues { IfOk result (λ n. self.new ≡ after_pull self.old n) }
     {
         if self.pulls < self.failing {
             self.pulls += 1;
@@ -96,9 +90,9 @@ impl Feed for MemFeed {
                 return Err(FeedFault::new());
             }
         }
-        let (_, left) = self.bytes.split_at(self.given);
-        let count = left.len().min(buffer.len()).min(self.step);
-        buffer[..count].copy_from_slice(&left[..count]);
+        let (_, remaining) = self.bytes.split_at(self.given);
+        let count = remaining.len().min(buffer.len()).min(self.step);
+        buffer[..count].copy_from_slice(&remaining[..count]);
         self.given += count;
         Ok(count)
     }

@@ -1,8 +1,9 @@
 //! An input as a feed.
 
 ghost use Rattle.std.specs.Io.KnownBytes.{ReadConsumes};
-ghost use Rattle.std.specs.Prelude.{◌≡◌, ◌+◌, ◌<◌, ◌≤◌, [], false, length, take, IfOk, IfSome, OnOk, OnErr};
+ghost use Rattle.std.specs.Prelude.{◌≡◌, ◌+◌, ◌<◌, ◌≤◌, [], length, take, IfOk, IfSome, OnOk, OnErr};
 ghost use Rattle.devices.specs.feeds.Feed.{put_back, IsPulled};
+ghost use Rattle.devices.specs.feeds.ReadFeedView.{input_state};
 
 use crate::count::{Count, raised};
 use crate::feeds::feed::{Feed, FeedFault};
@@ -24,14 +25,14 @@ pub struct ReadFeed<R: Read> {
 
 impl<R: Read> Model for ReadFeed<R> {
     ghost use Rattle.devices.specs.Count.{count_of};
-    ghost use Rattle.devices.specs.feeds.FeedSteps.{left_after};
+    ghost use Rattle.devices.specs.feeds.FeedSteps.{remaining_after};
     ghost use Rattle.devices.specs.feeds.ReadFeedView.{ReadFeedView};
     ghost use Rattle.devices.specs.inner.ReadFeedFields.{HasGiven};
 
     ghost Value = { ReadFeedView };
 
     ghost view = { λ f. record {
-      left = left_after (count_of f.given) (R.remaining f.first.value);
+      remaining = remaining_after (count_of f.given) (R.remaining f.first.value);
       given = count_of f.given;
       failures = count_of f.failures;
     } };
@@ -43,7 +44,7 @@ impl<R: Read> Model for ReadFeed<R> {
 impl<R: Read> ReadFeed<R> {
     /// Makes a feed of this input.
     pub fn new(input: R) -> ReadFeed<R>
-        ensures { result ≡ record { left = R.remaining input; given = 0; failures = 0 } }
+        ensures { result ≡ record { remaining = R.remaining input; given = 0; failures = 0 } }
     {
         let first = Snapshot::of(&input);
         ReadFeed {
@@ -56,30 +57,23 @@ impl<R: Read> ReadFeed<R> {
 }
 
 impl<R: Read> Feed for ReadFeed<R> {
-    ghost left = { λ f. f.left };
-
-    ghost given = { λ f. f.given };
-
-    ghost failures = { λ f. f.failures };
-
-    ghost is_sure = { λ _. false };
+    ghost state = { input_state };
 
     /// Gives the bytes of one read of the input. Repeats a read that a signal interrupts.
-    #[tactic(auto, using(crate::proofs::Giving::none_left))]
+    #[tactic(auto, using(crate::proofs::Giving::none_remaining))]
     fn pull(&mut self, buffer: &mut [u8]) -> Result<usize, FeedFault>
         // The effect on the input.
-        ensures reads { ReadConsumes self.old.left self.new.left result buffer.new }
+        ensures reads { ReadConsumes self.old.remaining self.new.remaining result buffer.new }
 
         // After success, the buffer starts with the next bytes.
         ensures within { IfOk result (λ n. n ≤ length buffer.old) }
         ensures gives { IfOk result
-            (λ n. self.old.left ≡ put_back (take n buffer.new) self.new.left) }
+            (λ n. self.old.remaining ≡ put_back (take n buffer.new) self.new.remaining) }
         ensures end { IfOk result
-            (λ n. n ≡ 0 → 0 < length buffer.old → IfSome self.old.left (λ bytes. bytes ≡ [])) }
+            (λ n. n ≡ 0 → 0 < length buffer.old → IfSome self.old.remaining (λ bytes. bytes ≡ [])) }
 
         // Given bytes and refused pulls are counted. After an error, no byte was given.
-        ensures pulls { IsPulled (λ f. f.left) (λ _. false) (λ f. f.given) (λ f. f.failures)
-            self.old self.new result }
+        ensures pulls { IsPulled (input_state self.old) (input_state self.new) result }
     {
         match read_some(&mut self.input, buffer) {
             Ok(count) => {

@@ -5,12 +5,12 @@ ghost use Rattle.devices.specs.feeds.ReadWhole.{IsReadWhole, ReadsFeed};
 ghost use Rattle.devices.specs.declared.feeds.slurp.SlurpFault.TheVariants.{FeedFailed, OutOfMemory};
 
 use crate::feeds::feed::{Feed, FeedFault};
-use crate::feeds::filling::{make_room, pull_behind};
+use crate::feeds::filling::{make_room, pull_after};
 use std::alloc::{AllocError, Global};
 use thiserror::Error;
 
 /// The largest limit that `slurp` accepts, in bytes: 64 GiB.
-pub const GREATEST_LIMIT: u64 = 68_719_476_736;
+pub const LARGEST_LIMIT: u64 = 68_719_476_736;
 
 /// Why a feed was not read to its end.
 #[derive(Debug, Drop, Error, PartialEq, Eq)]
@@ -56,22 +56,21 @@ impl From<AllocError> for SlurpFault {
 /// The bytes that the feed gave in this call are then lost.
 #[tactic(auto, using(crate::proofs::Giving::given_more))]
 pub fn slurp<F: Feed>(alloc: Global, feed: &mut F, limit: u64) -> Result<Vec<u8>, SlurpFault>
-    requires { limit ≤ GREATEST_LIMIT }
+    requires { limit ≤ LARGEST_LIMIT }
 
     // The text that is returned.
-    ensures read { IfOk result (λ text. IsReadWhole (F.left feed.old) (F.given feed.old)
-        (F.given feed.new) (F.failures feed.old) (F.failures feed.new) text.items) }
+    ensures read { IfOk result (λ text. IsReadWhole (F.state feed.old) (F.state feed.new) text.items) }
     ensures short { IfOk result (λ text. vec_len text ≤ limit) }
 
     // After success no byte is left; each error has its reason; the number of bytes read is bounded.
-    ensures reads { ReadsFeed F.left F.is_sure F.given F.failures limit feed.old feed.new result }
+    ensures reads { ReadsFeed limit (F.state feed.old) (F.state feed.new) result }
 {
     let most = limit as usize + 1;
     let mut text = Vec::new(alloc);
     let mut filled = 0;
     while filled < most {
         make_room(&mut text, filled, most)?;
-        let count = pull_behind(feed, text.as_mut_slice(), filled, most - filled)?;
+        let count = pull_after(feed, text.as_mut_slice(), filled, most - filled)?;
         if count == 0 {
             text.truncate(filled);
             return Ok(text);

@@ -3,7 +3,7 @@
 use crate::shown_bytes::ShownBytes;
 use std::snapshot::Snapshot;
 
-/// The files that were to be opened, each with the result.
+/// The files that were requested, each with the result.
 #[derive(Drop)]
 pub(crate) enum Asked<F> {
     Nothing,

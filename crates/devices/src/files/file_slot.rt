@@ -1,7 +1,7 @@
 //! Creates files once, at their paths.
 
 ghost use Rattle.std.specs.Prelude.{◌≡◌, ◌++◌, ℕ, List, [], ◌∷◌, Bool, string_bytes, IsOk, IsTrue, IfOk};
-ghost use Rattle.devices.specs.files.Told.{told_empty, told_held};
+ghost use Rattle.devices.specs.files.Reported.{empty_report, held_report};
 
 use crate::files::file_access::AtPath;
 use std::io;
@@ -13,7 +13,7 @@ pub trait FileSlot: Drop {
     type File: Write + AtPath + Drop;
 
     /// Whether its file reports its bytes. A file of a system does not.
-    ghost tells: { Bool };
+    ghost reports: { Bool };
 
     /// Whether its file can always be created. A file of a system cannot.
     ghost is_sure: { Bool };
@@ -28,7 +28,7 @@ pub trait FileSlot: Drop {
     /// It cannot be created, whatever the system's reason.
     fn create(self) -> io::Result<Self::File>
         ensures path { IfOk result (λ file. Self.File.path file ≡ path self) }
-        ensures empty { IfOk result (λ file. told_held tells (Self.File.contents file) ≡ told_empty tells) }
+        ensures empty { IfOk result (λ file. held_report reports (Self.File.contents file) ≡ empty_report reports) }
         ensures sure { IsTrue is_sure → IsOk result };
 }
 

@@ -1,7 +1,8 @@
 //! Opens feeds of files by their paths.
 
 ghost use Rattle.std.specs.Prelude.{◌≡◌, ◌++◌, List, [], ◌∷◌, IfOk, OnErr, OnOk};
-ghost use Rattle.devices.specs.files.Opening.{Opening, Opened as WasOpened, Unopened};
+ghost use Rattle.devices.specs.feeds.FileFeedView.{file_state};
+ghost use Rattle.devices.specs.files.Opening.{Opening, OpensFeed, Unopened};
 
 use crate::feeds::feed::{Feed, FeedFault};
 use crate::feeds::file_feed::FileFeed;
@@ -25,14 +26,12 @@ pub trait Opener {
     /// The file cannot be opened.
     fn open(&mut self, path: &str) -> Result<Self::Opened, FeedFault>
         ensures there { OnOk result ((file : Self.File) × (Self.File.path file ≡ path.now)) }
-        ensures opened { IfOk result (λ feed. opened self.new
-            ≡ opened self.old ++ WasOpened path.now (Self.Opened.left feed) ∷ []) }
-        ensures given { IfOk result (λ feed. Self.Opened.given feed ≡ 0) }
-        ensures failures { IfOk result (λ feed. Self.Opened.failures feed ≡ 0) }
+        ensures opened { IfOk result (λ feed. OpensFeed path.now (opened self.old) (opened self.new)
+            (Self.Opened.state feed)) }
         ensures refused { OnErr result (opened self.new ≡ opened self.old ++ Unopened path.now ∷ []) };
 }
 
-/// Opens feeds through a `FileAccess`; its record is that of the file access.
+/// Opens feeds through a `FileAccess`, with the record of the file access.
 impl<A: FileAccess> Opener for A
 where
     A::File: Send,
@@ -46,10 +45,8 @@ where
     fn open(&mut self, path: &str) -> Result<FileFeed<A::File>, FeedFault>
         ensures there { OnOk result ((file : A.File) × (A.File.path file ≡ path.now)) }
         ensures path { IfOk result (λ feed. feed.path ≡ path.now) }
-        ensures opened { IfOk result (λ feed. A.opened self.new
-            ≡ A.opened self.old ++ WasOpened path.now feed.left ∷ []) }
-        ensures given { IfOk result (λ feed. feed.given ≡ 0) }
-        ensures failures { IfOk result (λ feed. feed.failures ≡ 0) }
+        ensures opened { IfOk result (λ feed. OpensFeed path.now (A.opened self.old) (A.opened self.new)
+            (file_state feed)) }
         ensures refused { OnErr result (A.opened self.new ≡ A.opened self.old ++ Unopened path.now ∷ []) }
     {
         FileFeed::open(self, path)

@@ -58,7 +58,7 @@ impl<'a, R: Files> FileSlot for SystemSlot<'a, R> {
 
     type File = SystemFile<R::File>;
 
-    ghost tells = { false };
+    ghost reports = { false };
 
     ghost is_sure = { false };
 

@@ -2,8 +2,8 @@
 
 ghost use Rattle.std.specs.Prelude.{◌≡◌, ◌+◌, [], false, true, ◌++◌, ◌∷◌, is_some, IsErr, IsOk, IsTrue, IfOk, IfSome, OnOk, OnErr};
 ghost use Rattle.std.specs.Io.KnownBytes.{WriteAppends};
-ghost use Rattle.devices.specs.files.Told.{told_held};
-ghost use Rattle.devices.specs.sinks.FileSinkView.{file_told as told, unbegun, HoldsNewFile};
+ghost use Rattle.devices.specs.files.Reported.{held_report};
+ghost use Rattle.devices.specs.sinks.FileSinkView.{file_sink_state as sink_state, unbegun, HoldsNewFile};
 ghost use Rattle.devices.specs.sinks.SinkState.{IsCutOff, IsWritten, IsPut};
 
 use crate::count::{Count, raised};
@@ -29,7 +29,7 @@ pub struct FileSink<P: FileSlot> {
 impl<P: FileSlot> Model for FileSink<P> {
     ghost use Rattle.std.specs.Prelude.{◌≡◌, is_some, IfSome};
     ghost use Rattle.devices.specs.Count.{count_of};
-    ghost use Rattle.devices.specs.files.Told.{told_file, Tells};
+    ghost use Rattle.devices.specs.files.Reported.{file_report, Reports};
     ghost use Rattle.devices.specs.sinks.FileSinkView.{FileSinkView};
 
     ghost Value = { FileSinkView };
@@ -38,12 +38,12 @@ impl<P: FileSlot> Model for FileSink<P> {
       path = P.path s.first.value;
       has_slot = is_some s.slot;
       begun = is_some s.file;
-      held = told_file P.tells P.File.contents s.file;
+      held = file_report P.reports P.File.contents s.file;
       failures = count_of s.failures;
     } };
 
     ghost invariant = { λ s. IfSome s.slot (λ slot. slot ≡ s.first.value)
-        × Tells P.tells P.File.contents s.file };
+        × Reports P.reports P.File.contents s.file };
 }
 
 impl<P: FileSlot> FileSink<P> {
@@ -57,7 +57,7 @@ impl<P: FileSlot> FileSink<P> {
         alloc: Global,
         path: &str,
     ) -> Result<FileSink<P>, AllocError>
-        ensures unbegun { IfOk result (λ sink. sink ≡ unbegun P.tells path.now) }
+        ensures unbegun { IfOk result (λ sink. sink ≡ unbegun P.reports path.now) }
         ensures made { OnOk result (F.made files.new ≡ F.made files.old ++ path.now ∷ []) }
         ensures kept { OnErr result (F.made files.new ≡ F.made files.old) }
     {
@@ -67,7 +67,7 @@ impl<P: FileSlot> FileSink<P> {
 
     /// Makes a sink for the file of this slot. It is not begun. Allocates no memory, and never fails.
     pub fn from_slot(slot: P) -> FileSink<P>
-        ensures { result ≡ unbegun P.tells (P.path slot) }
+        ensures { result ≡ unbegun P.reports (P.path slot) }
     {
         FileSink {
             first: Snapshot::of(&slot),
@@ -88,14 +88,14 @@ impl<P: FileSlot> FileSink<P> {
     /// Returns its file, after it was begun.
     pub fn file(&self) -> Option<&P::File>
         ensures begun { is_some result ≡ self.now.begun }
-        ensures held { IfSome result (λ file. told_held P.tells (P.File.contents file.now) ≡ self.now.held) }
+        ensures held { IfSome result (λ file. held_report P.reports (P.File.contents file.now) ≡ self.now.held) }
     {
         self.file.as_ref()
     }
 }
 
 impl<P: FileSlot> Sink for FileSink<P> {
-    ghost state = { told };
+    ghost state = { sink_state };
 
     /// Creates the file, or empties an existing one. The first call uses up the slot, even if it fails.
     ///
@@ -103,14 +103,14 @@ impl<P: FileSlot> Sink for FileSink<P> {
     ///
     /// The file cannot be created, or `begin` was called before. The sink is unchanged, with one more refusal.
     fn begin(&mut self) -> Result<(), SinkFault>
-        ensures begins { OnOk result (IsWritten [] (told self.old) (told self.new)) }
-        ensures refused { OnErr result (IsCutOff 1 [] (told self.old) (told self.new)) }
+        ensures begins { OnOk result (IsWritten [] (sink_state self.old) (sink_state self.new)) }
+        ensures refused { OnErr result (IsCutOff 1 [] (sink_state self.old) (sink_state self.new)) }
         ensures path { self.new.path ≡ self.old.path }
         ensures once { OnOk result (self.old.has_slot ≡ true) }
         ensures sure { IsTrue P.is_sure → self.old.has_slot ≡ true → IsOk result }
         ensures used_up { self.new.has_slot ≡ false }
         ensures file { OnOk result
-            (HoldsNewFile P.File.path P.File.contents P.tells self.old.path self.new.held) }
+            (HoldsNewFile P.File.path P.File.contents P.reports self.old.path self.new.held) }
         ensures kept { OnErr result
             (self.new ≡ record self.old { has_slot = false; failures = self.old.failures + 1 }) }
     {
@@ -142,7 +142,7 @@ impl<P: FileSlot> Sink for FileSink<P> {
         ensures unbegun { self.old.begun ≡ false → IsErr result }
 
         // The bytes that it takes are appended to the file.
-        ensures puts { IsPut bytes.now (told self.old) (told self.new) result }
+        ensures puts { IsPut bytes.now (sink_state self.old) (sink_state self.new) result }
         ensures bytes { WriteAppends self.old.held self.new.held result bytes.now }
     {
         let written = match &mut self.file {

@@ -1,7 +1,7 @@
 //! A sink over a vector that already holds something.
 
 ghost use Rattle.std.specs.Prelude.{◌≡◌, ◌+◌, ◌<◌, [], ◌++◌, Some, length, true, false, IsOk, IfOk, OnOk, OnErr};
-ghost use Rattle.devices.specs.sinks.SectionSinkView.{section_told as told};
+ghost use Rattle.devices.specs.sinks.SectionSinkView.{section_sink_state as sink_state};
 
 use crate::count::{Count, raised};
 use crate::sinks::sink::{Sink, SinkFault};
@@ -39,7 +39,7 @@ impl Model for SectionSink {
 impl SectionSink {
     /// Makes a sink that appends to these bytes. It is not begun.
     pub fn new(bytes: Vec<u8>) -> SectionSink
-        ensures { told result ≡ record
+        ensures { sink_state result ≡ record
             { begun = false; before = bytes.items; taken = Some []; failures = 0 } }
     {
         let start = bytes.len();
@@ -58,13 +58,13 @@ impl SectionSink {
     ///
     /// Memory was refused. The sink is unchanged.
     pub fn section(&mut self, line: &[u8]) -> Result<(), AllocError>
-        ensures kept { OnOk result (told self.new ≡ record {
+        ensures kept { OnOk result (sink_state self.new ≡ record {
           begun = false;
           before = self.old.before ++ self.old.taken ++ line.now;
           taken = Some [];
           failures = self.old.failures;
         }) }
-        ensures refused { OnErr result (told self.new ≡ told self.old) }
+        ensures refused { OnErr result (sink_state self.new ≡ sink_state self.old) }
         ensures fails_only { OnErr result
             (self.old.room < length self.old.before + length self.old.taken + length line.now) }
     {
@@ -83,12 +83,12 @@ impl SectionSink {
 }
 
 impl Sink for SectionSink {
-    ghost state = { told };
+    ghost state = { sink_state };
 
     /// Drops the text. Never fails.
     fn begin(&mut self) -> Result<(), SinkFault>
         ensures begins { IsOk result }
-        ensures empties { told self.new ≡ record (told self.old) { begun = true; taken = Some [] } }
+        ensures empties { sink_state self.new ≡ record (sink_state self.old) { begun = true; taken = Some [] } }
     {
         self.begun = true;
         self.bytes.truncate(self.start);
@@ -103,10 +103,10 @@ impl Sink for SectionSink {
     fn put(&mut self, bytes: &[u8]) -> Result<usize, SinkFault>
         ensures all { IfOk result (λ n. n ≡ length bytes.now) }
         ensures takes { OnOk result
-            (told self.new ≡ record (told self.old)
+            (sink_state self.new ≡ record (sink_state self.old)
             { taken = Some (self.old.taken ++ bytes.now) }) }
         ensures refused { OnErr result
-            (told self.new ≡ record (told self.old) { failures = self.old.failures + 1 }) }
+            (sink_state self.new ≡ record (sink_state self.old) { failures = self.old.failures + 1 }) }
         ensures fails_only { OnErr result
             (self.old.room < length self.old.before + length self.old.taken + length bytes.now) }
     {

@@ -7,7 +7,7 @@ use pit_units::OrMemory;
 use std::io;
 use thiserror::Error;
 
-/// A device refused to take bytes, or to begin. Any code outside of this crate can make one from an `io::Error`, so it does not show that a
+/// A device refused to take bytes, or to begin. Any code outside this crate can make one from an `io::Error`, so it does not show that a
 /// sink refused a call; the `failures` of the sink's state do.
 #[derive(Clone, Copy, Debug, Error, PartialEq, Eq)]
 #[error("the sink failed")]
@@ -16,12 +16,12 @@ pub struct SinkFault {
 }
 
 impl SinkFault {
-    /// Returns the fault of a device that reported this error.
+    /// Returns the error of a device that reported this I/O error.
     pub fn of(_error: &io::Error) -> SinkFault {
         SinkFault::new()
     }
 
-    // Returns the fault of a device of this crate.
+    // Returns the error of a device of this crate.
     pub(crate) fn new() -> SinkFault {
         SinkFault { refused: () }
     }

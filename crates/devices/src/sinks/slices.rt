@@ -1,4 +1,4 @@
-//! Large slices to a sink.
+//! Writes large slices to a sink.
 
 ghost use Rattle.std.specs.Prelude.{◌≡◌, [], OnOk, OnErr};
 ghost use Rattle.devices.specs.sinks.SinkSteps.{IsAppended, IsAppendCut};
@@ -6,10 +6,10 @@ ghost use Rattle.devices.specs.sinks.Writes.{HasRoom};
 
 use crate::sinks::sink::{Sink, SinkFault};
 
-/// How many bytes are collected before they are put.
+/// The number of bytes that are collected before a put.
 pub const LARGE: usize = 65_536;
 
-/// Puts all the bytes, in as many calls as the sink wants. Where the device fails the sink has taken a front of them.
+/// Puts all the bytes, in the number of calls that the sink needs. If the device fails, the sink has taken a prefix of them.
 pub fn put_all<S: Sink>(sink: &mut S, bytes: &[u8]) -> Result<(), SinkFault>
     ensures written { OnOk result
         (IsAppended bytes.now [] [] (S.state sink.old) (S.state sink.new)) }
@@ -18,13 +18,13 @@ pub fn put_all<S: Sink>(sink: &mut S, bytes: &[u8]) -> Result<(), SinkFault>
 {
     let mut rest = bytes;
     while !rest.is_empty() {
-        let (_, left) = rest.split_at(sink.put(rest)?);
-        rest = left;
+        let (_, remaining) = rest.split_at(sink.put(rest)?);
+        rest = remaining;
     }
     Ok(())
 }
 
-/// Puts the buffer and empties it. Where the device fails the sink has taken a front of it.
+/// Puts the buffer and empties it. If the device fails, the sink has taken a prefix of it.
 pub fn flush<S: Sink>(sink: &mut S, buffer: &mut Vec<u8>) -> Result<(), SinkFault>
     ensures written { OnOk result
         (IsAppended [] buffer.old.items buffer.new.items (S.state sink.old) (S.state sink.new)) }
@@ -37,8 +37,8 @@ pub fn flush<S: Sink>(sink: &mut S, buffer: &mut Vec<u8>) -> Result<(), SinkFaul
     Ok(())
 }
 
-/// Puts a full buffer and empties it. Where the device fails the sink has taken a front of it.
-#[tactic(auto, using(crate::proofs::Fronts::buffered))]
+/// Puts the buffer and empties it, if it is full. If the device fails, the sink has taken a prefix of it.
+#[tactic(auto, using(crate::proofs::Prefixes::buffered))]
 pub fn flush_full<S: Sink>(sink: &mut S, buffer: &mut Vec<u8>) -> Result<(), SinkFault>
     ensures written { OnOk result
         (IsAppended [] buffer.old.items buffer.new.items (S.state sink.old) (S.state sink.new)) }

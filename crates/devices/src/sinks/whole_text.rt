@@ -1,4 +1,4 @@
-//! Writes a whole text to a sink.
+//! Writes a complete text to a sink.
 
 ghost use Rattle.std.specs.Prelude.{ℕ, List, OnOk};
 ghost use Rattle.devices.specs.sinks.Writes.{Writes, WritesOn};
@@ -10,7 +10,7 @@ use std::alloc::Global;
 
 /// A text that is written in parts.
 pub trait Text {
-    /// The whole text.
+    /// The complete text.
     ghost text: { Self → List ℕ };
 
     /// The facts that the types of its parts guarantee, known after it is written.
@@ -36,7 +36,7 @@ pub trait Text {
 ///
 /// - `SinkFault`: it refused a call.
 /// - `OutOfMemory`: memory was refused.
-#[tactic(auto, using(crate::proofs::Fronts::cut_at_begin))]
+#[tactic(auto, using(crate::proofs::Prefixes::cut_at_begin))]
 pub fn write_text<S: Sink, T: Text>(alloc: Global, text: &T, sink: &mut S) -> Result<(), WriteFault>
     ensures writes { Writes (T.text text.now) (S.state sink.old) (S.state sink.new) result }
     ensures kept { OnOk result (T.kept text.now) }

@@ -2,7 +2,7 @@
 
 ghost use Rattle.std.specs.Io.KnownBytes.{WriteAppends};
 ghost use Rattle.std.specs.Prelude.{◌≡◌, [], IsErr, OnErr};
-ghost use Rattle.devices.specs.sinks.WriteSinkView.{told_as, write_told as told};
+ghost use Rattle.devices.specs.sinks.WriteSinkView.{report_as_before, write_sink_state as sink_state};
 ghost use Rattle.devices.specs.sinks.SinkState.{IsCutOff, IsPut};
 
 use crate::count::{Count, raised};
@@ -24,16 +24,16 @@ pub struct WriteSink<W: Write> {
 
 impl<W: Write> Model for WriteSink<W> {
     ghost use Rattle.devices.specs.Count.{count_of};
-    ghost use Rattle.devices.specs.sinks.WriteSinkView.{told_as, TellsOn, WriteSinkView};
+    ghost use Rattle.devices.specs.sinks.WriteSinkView.{report_as_before, StillReports, WriteSinkView};
 
     ghost Value = { WriteSinkView };
 
     ghost view = { λ s. record {
-      held = told_as (W.contents s.first.value) (W.contents s.output);
+      held = report_as_before (W.contents s.first.value) (W.contents s.output);
       failures = count_of s.failures;
     } };
 
-    ghost invariant = { λ s. TellsOn (W.contents s.first.value) (W.contents s.output) };
+    ghost invariant = { λ s. StillReports (W.contents s.first.value) (W.contents s.output) };
 }
 
 impl<W: Write> WriteSink<W> {
@@ -51,18 +51,18 @@ impl<W: Write> WriteSink<W> {
 
     /// Returns the output.
     pub fn output(&self) -> &W
-        ensures { self.now.held ≡ told_as self.now.held (W.contents result.now) }
+        ensures { self.now.held ≡ report_as_before self.now.held (W.contents result.now) }
     {
         &self.output
     }
 }
 
 impl<W: Write> Sink for WriteSink<W> {
-    ghost state = { told };
+    ghost state = { sink_state };
 
     /// Always fails: the output cannot drop the bytes that it took.
     fn begin(&mut self) -> Result<(), SinkFault>
-        ensures refused { OnErr result (IsCutOff 1 [] (told self.old) (told self.new)) }
+        ensures refused { OnErr result (IsCutOff 1 [] (sink_state self.old) (sink_state self.new)) }
         ensures never { IsErr result }
     {
         self.failures = raised(&self.failures, 1);
@@ -72,7 +72,7 @@ impl<W: Write> Sink for WriteSink<W> {
     /// Writes the bytes that one write to the output takes. Repeats a write that a signal interrupts.
     fn put(&mut self, bytes: &[u8]) -> Result<usize, SinkFault>
         // The bytes that it takes are appended to the output.
-        ensures puts { IsPut bytes.now (told self.old) (told self.new) result }
+        ensures puts { IsPut bytes.now (sink_state self.old) (sink_state self.new) result }
         ensures bytes { WriteAppends self.old.held self.new.held result bytes.now }
     {
         let written = write_some(&mut self.output, bytes);

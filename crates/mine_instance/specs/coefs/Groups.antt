@@ -1,4 +1,4 @@
--- The coefficients of a group: those of one block with the same tonnes.
+-- The coefficients of a group: coefficients of one block with the same tonnes.
 use Rattle.std.specs.Prelude.{ℕ, List, map}
 use Rattle.mine_instance.specs.coefs.CoveredPairs.{coef_of}
 use Rattle.mine_instance.specs.declared.coefs.coef.Coef.{Coef}
@@ -6,7 +6,7 @@ use Rattle.mine_instance.specs.declared.coefs.group.CoefGroup.{CoefGroup}
 use Rattle.mine_instance.specs.declared.coefs.group.Pairs.{Pairs}
 use Rattle.mine_instance.specs.declared.coefs.group.Pairs.TheVariants.{Covered, One}
 
--- the destination and the resource of each
+-- the destination and the resource of each coefficient
 abbrev pub pairs_of : Pairs → List (ℕ × ℕ)
 pairs_of (Covered pairs) = pairs.now
 pairs_of (One pair) = pair

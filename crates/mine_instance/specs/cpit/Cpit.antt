@@ -11,6 +11,6 @@ pub record CpitParts : Type 0 where
   pub resources : ℕ
   -- one for each block, in units of 100 cents
   pub values : List ℤ
-  -- at the only destination, which is 0
+  -- all at destination 0, the only one
   pub coefs : List Coef
   pub limits : List Limit

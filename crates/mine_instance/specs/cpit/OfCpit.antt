@@ -1,19 +1,19 @@
--- The CPIT of an instance: each block goes to the first destination where it is worth most.
+-- The CPIT of an instance: each block goes to the first destination with its largest value.
 use Rattle.std.specs.Prelude.{ℕ, ◌==◌, Bool, List, [], ℤ, map, filter, slice_index_or}
-use Rattle.mine_instance.specs.Greatest.{first_greatest, greatest}
+use Rattle.mine_instance.specs.Largest.{first_largest, largest}
 use Rattle.mine_instance.specs.declared.coefs.coef.Coef.{Coef}
 use Rattle.mine_instance.specs.Instance.{Instance}
 use Rattle.mine_instance.specs.cpit.Cpit.{CpitParts}
 
 -- the destination of a block
 abbrev pub destination_of : List (List ℤ) → ℕ → ℕ
-destination_of values block = first_greatest (slice_index_or values block [])
+destination_of values block = first_largest (slice_index_or values block [])
 
 -- the coefficient is at its block's destination
 abbrev pub is_chosen : List (List ℤ) → Coef → Bool
 is_chosen values c = c.d == destination_of values c.b
 
--- a coefficient, moved to the only destination
+-- a coefficient, with the only destination as its destination
 abbrev pub at_only_destination : Coef → Coef
 at_only_destination c = record c { d = 0 }
 
@@ -24,7 +24,7 @@ cpit i = record {
   rate = i.rate;
   periods = i.periods;
   resources = i.resources;
-  values = map greatest i.values;
+  values = map largest i.values;
   coefs = map at_only_destination (filter (is_chosen i.values) i.coefs);
   limits = i.limits;
 }

@@ -1,4 +1,4 @@
-//! What a block takes of a resource where it goes to a destination.
+//! The tonnes that a block adds to a resource if it goes to a destination.
 
 ghost use Rattle.std.specs.Prelude.{◌≡◌};
 ghost use Rattle.mine_instance.specs.Order.{coef_before};
@@ -16,15 +16,15 @@ pub struct Coef {
     pub d: u8,
     /// The number of the resource, from 0 in the order of the plan.
     pub r: u8,
-    /// The tonnes. In a file that is read, any decimal, also below 0.
+    /// The tonnes. In a file that was read, any decimal, including negative ones.
     pub v: Dec,
 }
 
-/// Coefficients that are kept, in rising order of block, destination and resource.
+/// Stored coefficients, in rising order of block, destination and resource.
 pub type Coefs = Listed<Coef>;
 
 impl Coef {
-    /// Whether the coefficient comes before another: by block, then destination, then resource.
+    /// Returns whether the coefficient precedes another one: by block, then destination, then resource.
     pub fn comes_before(&self, other: &Coef) -> bool
         ensures { result ≡ coef_before self.now other.now }
     {

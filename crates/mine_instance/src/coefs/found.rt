@@ -1,8 +1,8 @@
-//! Coefficients that are found when they are asked for.
+//! Coefficients that are computed lazily.
 
 ghost use Rattle.std.specs.Prelude.{◌≡◌, ◌*◌, ◌≤◌, ◌++◌, pos, IfOk, OnOk, length};
 ghost use Rattle.mine_instance.specs.coefs.CoveredPairs.{coefs_of};
-ghost use Rattle.mine_instance.specs.inner.FoundCoefFields.{heavy_of, heavy_one};
+ghost use Rattle.mine_instance.specs.inner.LazyCoefFields.{heavy_of, heavy_one};
 ghost use Rattle.plan_parts.specs.declared.ranges.TheConstants.{MAX_BLOCKS, MAX_DESTINATIONS, MAX_RESOURCES};
 
 use crate::coefs::group::{CoefGroup, Covering, Pairs};
@@ -15,9 +15,9 @@ use std::marker::Model;
 /// A block that has tonnage.
 #[derive(Clone, Copy, Debug)]
 struct HeavyBlock {
-    // the identifier
+    // The identifier.
     b: u32,
-    // The kilograms of a block are at most 10^9, which 32 bits hold.
+    // 32 bits hold the kilograms of a block, which are at most 10^9.
     kg: u32,
 }
 
@@ -30,18 +30,18 @@ impl HeavyBlock {
     }
 }
 
-/// The coefficients of blocks: one for each block that has tonnage and each covered pair of a destination and a resource. They are
-/// not kept: it takes 8 bytes for each such block. Contracts see the list of them.
+/// The coefficients of blocks: one for each block that has tonnage and each covered pair of a destination and a resource. Stores 8
+/// bytes for each such block instead of the coefficients. Contracts see the list of coefficients.
 #[derive(Debug, Drop)]
-pub struct FoundCoefs {
+pub struct LazyCoefs {
     heavy: Vec<HeavyBlock>,
     pairs: Vec<Covering>,
 }
 
-impl Model for FoundCoefs {
+impl Model for LazyCoefs {
     ghost use Rattle.std.specs.Prelude.{List};
     ghost use Rattle.mine_instance.specs.declared.coefs.coef.Coef.{Coef as ACoef};
-    ghost use Rattle.mine_instance.specs.inner.FoundCoefFields.{found_in, KeepsFew};
+    ghost use Rattle.mine_instance.specs.inner.LazyCoefFields.{found_in, KeepsFew};
 
     ghost Value = { List ACoef };
 
@@ -50,27 +50,27 @@ impl Model for FoundCoefs {
     ghost invariant = { KeepsFew };
 }
 
-impl FoundCoefs {
-    /// The coefficients of these blocks, by identifier, at these pairs. Fails only where memory is refused.
+impl LazyCoefs {
+    /// Makes the coefficients of these blocks, in order of identifier, at these pairs. Fails only if memory is refused.
     pub fn new(
         alloc: Global,
         pairs: Vec<Covering>,
         blocks: &[Block],
-    ) -> Result<FoundCoefs, AllocError>
+    ) -> Result<LazyCoefs, AllocError>
         requires blocks { length blocks.now ≤ MAX_BLOCKS }
         requires pairs { length pairs.items ≤ MAX_DESTINATIONS * MAX_RESOURCES }
         ensures { IfOk result (λ found. found ≡ coefs_of pairs.items blocks.now) }
     {
         if pairs.is_empty() {
             let heavy = Vec::new(alloc);
-            return Ok(FoundCoefs { heavy, pairs });
+            return Ok(LazyCoefs { heavy, pairs });
         }
         let heavy = heavy_of(alloc, blocks)?;
-        Ok(FoundCoefs { heavy, pairs })
+        Ok(LazyCoefs { heavy, pairs })
     }
 }
 
-impl CoefList for FoundCoefs {
+impl CoefList for LazyCoefs {
     ghost list = { λ found. found };
 
     #[tactic(auto, using(crate::proofs::FoundFacts::counts))]

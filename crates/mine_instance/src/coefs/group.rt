@@ -1,4 +1,4 @@
-//! Coefficients that have a block and its tonnes in common.
+//! Coefficients with the same block and tonnes.
 
 ghost use Rattle.std.specs.Prelude.{◌≡◌, length};
 ghost use Rattle.mine_instance.specs.coefs.Groups.{pairs_of};
@@ -8,28 +8,28 @@ use pit_units::Dec;
 /// A destination and a resource that covers it, by their numbers.
 pub type Covering = (u8, u8);
 
-/// Coefficients, one behind the other, of the same block with the same tonnes.
+/// Consecutive coefficients of the same block with the same tonnes.
 #[derive(Clone, Copy, Debug)]
 pub struct CoefGroup<'a> {
     /// The identifier of the block.
     pub b: u32,
     /// The tonnes.
     pub v: Dec,
-    /// The destination and the resource of each.
+    /// The destination and the resource of each coefficient.
     pub pairs: Pairs<'a>,
 }
 
-/// The destinations and resources of some coefficients.
+/// The destinations and resources of a group's coefficients.
 #[derive(Clone, Copy, Debug)]
 pub enum Pairs<'a> {
-    /// Those that are covered.
+    /// Consecutive covered pairs.
     Covered(&'a [Covering]),
-    /// A single one.
+    /// A single pair.
     One([Covering; 1]),
 }
 
 impl<'a> Pairs<'a> {
-    /// All of them, in their order.
+    /// Returns all pairs, in order.
     #[inline(always)]
     pub fn as_slice(&self) -> &[Covering]
         ensures { result.now ≡ pairs_of self.now }
@@ -40,7 +40,7 @@ impl<'a> Pairs<'a> {
         }
     }
 
-    /// How many there are.
+    /// Returns the number of pairs.
     #[inline(always)]
     pub fn len(&self) -> usize
         ensures { result ≡ length (pairs_of self.now) }

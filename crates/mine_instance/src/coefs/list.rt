@@ -1,4 +1,4 @@
-//! Lists of coefficients, whether they are kept or found.
+//! Lists of coefficients, stored or computed lazily.
 
 ghost use Rattle.std.specs.Prelude.{◌≡◌, ◌+◌, ◌<◌, ◌≤◌, List, length, take, drop};
 ghost use Rattle.mine_instance.specs.coefs.Groups.{coefs_in, pairs_of};
@@ -7,17 +7,18 @@ use crate::coefs::coef::Coef;
 use crate::coefs::group::{CoefGroup, Pairs};
 use plan_parts::listed::Listed;
 
-/// A list of coefficients. `Coefs` keeps them and lends them, and `FoundCoefs` finds them when they are asked for.
+/// A list of coefficients. `Coefs` stores them, and `LazyCoefs` computes them lazily.
 pub trait CoefList {
     ghost use Rattle.mine_instance.specs.declared.coefs.coef.Coef.{Coef};
 
     ghost list: { Self → List Coef };
 
-    /// The number of coefficients.
+    /// Returns the number of coefficients.
     fn len(&self) -> usize
         ensures { result ≡ length (list self.now) };
 
-    /// Those from a place on that are told at once: one or more of one block with the same tonnes.
+    /// Returns a group of coefficients from the place `from` on: one or more of one block with the same tonnes. There must be a
+    /// coefficient at `from`.
     fn group(&self, from: usize) -> CoefGroup<'_>
         requires { from < length (list self.now) }
         ensures some { 0 < length (pairs_of result.pairs) }

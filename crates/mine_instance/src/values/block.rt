@@ -2,23 +2,23 @@
 
 ghost use Rattle.std.specs.Prelude.{◌≡◌, ◌<◌, length, slice_index_or};
 ghost use Rattle.mine_instance.specs.BlockValues.{values_in};
-ghost use Rattle.mine_instance.specs.Greatest.{first_greatest, greatest};
+ghost use Rattle.mine_instance.specs.Largest.{first_largest, largest};
 
-use crate::values::greatest::{first_greatest, first_greatest_of_cents, greatest};
 use crate::values::in_hundreds::in_hundreds;
+use crate::values::largest::{first_largest, first_largest_of_cents, largest};
 use pit_units::Dec;
 
-/// The values of a block, one per destination, in the order of the destinations.
+/// The values of a block, one for each destination, in the order of the destinations.
 #[derive(Clone, Copy, Debug)]
 pub enum BlockValues<'a> {
-    /// In units of 100 cents, as an instance keeps them.
+    /// In units of 100 cents, as in an instance.
     Hundreds(&'a [Dec]),
-    /// In cents, as the worths of a row.
+    /// In cents, as in the worths of a row.
     Cents(&'a [i64]),
 }
 
 impl<'a> BlockValues<'a> {
-    /// How many there are.
+    /// Returns the number of values.
     #[inline(always)]
     pub fn len(&self) -> usize
         ensures { result ≡ length (values_in self.now) }
@@ -29,7 +29,7 @@ impl<'a> BlockValues<'a> {
         }
     }
 
-    /// The value at a destination, in units of 100 cents.
+    /// Returns the value at a destination, in units of 100 cents.
     #[inline(always)]
     pub fn at(&self, destination: usize) -> Dec
         requires { destination < length (values_in self.now) }
@@ -41,31 +41,31 @@ impl<'a> BlockValues<'a> {
         }
     }
 
-    /// The first destination whose value none of the others exceeds.
-    pub fn first_greatest(&self) -> usize
+    /// Returns the first destination with the largest value. There must be a value.
+    pub fn first_largest(&self) -> usize
         requires { 0 < length (values_in self.now) }
-        ensures value { result ≡ first_greatest (values_in self.now) }
+        ensures value { result ≡ first_largest (values_in self.now) }
         ensures within { result < length (values_in self.now) }
     {
         match self {
-            BlockValues::Hundreds(values) => first_greatest(values),
-            BlockValues::Cents(cents) => first_greatest_of_cents(cents),
+            BlockValues::Hundreds(values) => first_largest(values),
+            BlockValues::Cents(cents) => first_largest_of_cents(cents),
         }
     }
 
-    /// The value that none of the others exceeds, in units of 100 cents.
-    pub fn greatest(&self) -> Dec
+    /// Returns the largest value, in units of 100 cents. There must be a value.
+    pub fn largest(&self) -> Dec
         requires { 0 < length (values_in self.now) }
-        ensures { result ≡ greatest (values_in self.now) }
+        ensures { result ≡ largest (values_in self.now) }
     {
         match self {
-            BlockValues::Hundreds(values) => greatest(values),
-            BlockValues::Cents(cents) => in_hundreds(cents[first_greatest_of_cents(cents)]),
+            BlockValues::Hundreds(values) => largest(values),
+            BlockValues::Cents(cents) => in_hundreds(cents[first_largest_of_cents(cents)]),
         }
     }
 }
 
-// What stands for a destination.
+// Returns the element of a destination.
 #[inline(always)]
 fn at_destination<T>(each: &[T], destination: usize) -> &T
     requires { destination < length each.now }

@@ -1,4 +1,4 @@
-//! Values that are found when they are asked for.
+//! Values that are computed lazily.
 
 ghost use Rattle.std.specs.Prelude.{◌≡◌, ◌<◌, List, [], length, map, slice_index_or, All};
 ghost use Rattle.mine_instance.specs.OfModel.{in_hundreds, values_of};
@@ -13,18 +13,18 @@ use crate::values::list::ValueList;
 use rows::RowWorths;
 use std::marker::Model;
 
-/// The values of blocks by identifier, found among the worths of the rows that the blocks come from. They are not kept: beside these
-/// worths it takes 4 bytes for each block. Contracts see a list of values for each block.
+/// The values of blocks in order of identifier, computed lazily from the worths of the rows with these blocks. Besides these worths
+/// it stores 4 bytes for each block. Contracts see a list of values for each block.
 #[derive(Debug, Drop)]
-pub struct FoundValues {
+pub struct LazyValues {
     worths: RowWorths,
-    // where the row of each block stands
+    // The position of each block's row.
     positions: Vec<u32>,
 }
 
-impl Model for FoundValues {
+impl Model for LazyValues {
     ghost use Rattle.std.specs.Prelude.{◌<◌, List, ℤ, All, length};
-    ghost use Rattle.mine_instance.specs.inner.FoundValueFields.{found_at};
+    ghost use Rattle.mine_instance.specs.inner.LazyValueFields.{found_at};
     ghost use Rattle.std.specs.Prelude.{map};
 
     ghost Value = { List (List ℤ) };
@@ -34,10 +34,10 @@ impl Model for FoundValues {
     ghost invariant = { λ f. All (λ p. p < length f.worths) f.positions.items };
 }
 
-impl FoundValues {
-    /// The values by the worths at these positions. Where these are the worths of rows, and the positions those of the numbering of their
-    /// blocks, they are the values of the blocks by identifier.
-    pub fn new(worths: RowWorths, positions: Vec<u32>) -> FoundValues
+impl LazyValues {
+    /// Makes the values from the worths at these positions, each below the number of rows. If the worths belong to rows by a plan,
+    /// and the positions come from the numbering of the rows' blocks, these are the values of the blocks in order of identifier.
+    pub fn new(worths: RowWorths, positions: Vec<u32>) -> LazyValues
         requires { All (λ p. p < length worths) positions.items }
         ensures value { result
             ≡ map (λ p. map in_hundreds (slice_index_or worths p [])) positions.items }
@@ -45,11 +45,11 @@ impl FoundValues {
             → AreWorthsOf plan worths rows → IsNumbering (blocks_of_rows rows) n
             → n.positions ≡ positions.items → result ≡ map (values_of plan) n.blocks }
     {
-        FoundValues { worths, positions }
+        LazyValues { worths, positions }
     }
 }
 
-impl ValueList for FoundValues {
+impl ValueList for LazyValues {
     ghost list = { λ found. found };
 
     fn len(&self) -> usize {

@@ -1,11 +1,11 @@
-//! Cents as a value.
+//! Cents as values.
 
 ghost use Rattle.std.specs.Prelude.{◌≡◌};
 ghost use Rattle.mine_instance.specs.OfModel.{in_hundreds};
 
 use pit_units::Dec;
 
-/// So many cents in units of 100 cents.
+/// Converts cents to units of 100 cents.
 #[inline(always)]
 pub fn in_hundreds(cents: i64) -> Dec
     ensures { result ≡ in_hundreds cents }

@@ -1,4 +1,4 @@
--- Coefficients that rise are no more than their places; rows of values, and one more.
+-- The number of rising coefficients is at most their largest place; rows of values with another one.
 use Rattle.std.proofs.Common.{◌≡◌, ℕ, ◌+◌, ◌-◌, ◌<◌, ◌≤◌, true, List, [], ◌∷◌, ◌++◌, length, Option, Some, None, refl, sym, ap, ◌∙◌, arith, ℤ}
 use Rattle.std.proofs.lemmas.Bool.Decides.{nat_tests}
 use Rattle.std.proofs.lemmas.List.{length-map, length_push, map-append}
@@ -6,13 +6,13 @@ use Rattle.std.specs.Prelude.{slice_get}
 use Rattle.std.specs.Global.{Vec}
 use Rattle.mine_instance.specs.Order.{coef_before}
 use Rattle.mine_instance.specs.declared.coefs.coef.Coef.{Coef}
-use Rattle.minelib_reading.specs.ModelDraft.{is_behind, last_of}
+use Rattle.minelib_reading.specs.ModelDraft.{is_after, last_of}
 use Rattle.minelib_reading.specs.inner.CountedItems.{last_d, last_r, most_up_to, values_in_rows}
 
-pub next_place : (last : Option Coef) (n : ℕ) (c : Coef) → last_d last < 256 → last_r last < 256 → n ≤ most_up_to last → is_behind coef_before last c ≡ true
+pub next_place : (last : Option Coef) (n : ℕ) (c : Coef) → last_d last < 256 → last_r last < 256 → n ≤ most_up_to last → is_after coef_before last c ≡ true
     → n + 1 ≤ most_up_to (Some c)
-next_place None n c d r low behind = omega (arith, low)
-next_place (Some last) n c d r low behind = grind (arith, nat_tests, d, r, low, behind)
+next_place None n c d r low following = omega (arith, low)
+next_place (Some last) n c d r low following = grind (arith, nat_tests, d, r, low, following)
 
 added : (coefs : List Coef) (c : Coef) → slice_get (coefs ++ c ∷ []) (length coefs) ≡ Some c
 added [] c = refl

@@ -1,4 +1,4 @@
--- Lines as the code takes them, field by field and counted later, state what the pages say of them.
+-- Lines as the code reads them, field by field and counted later, state what the definitions state.
 use Rattle.std.specs.Prelude.{Bool, Err, List, Ok, Result, if◌then◌else◌, nat_lt, not, ℕ, ℤ, ◌*◌, ◌/◌, ◌==◌, ◌||◌}
 use Rattle.std.proofs.Common.{[], ap, arith, false, length, refl, sym, true, ◌+◌, ◌∙◌, ◌∷◌, ◌≡◌}
 use Rattle.std.proofs.lemmas.Bool.{eq-eqb, eqb-true, le-ltb}
@@ -67,7 +67,7 @@ pub uncounted_preds_read : (n own : ℕ) (fields : List (List ℕ)) → uncounte
 unfolding uncounted_preds
 uncounted_preds_read n own fields = refl
 
--- a line of fewer than two fields lacks some
+-- a line with fewer than two fields has too few
 pub preds_by_count : (n own : ℕ) (fields : List (List ℕ))
     → preds_stated n own fields ≡ (if nat_lt (length fields) 2 then Err Fields else uncounted_preds n own fields)
 unfolding preds_stated uncounted_preds
@@ -105,17 +105,17 @@ preds_counted n own (lone ∷ []) ids e = absurd (by (below_in n lone) e)
     one : ℕ → Result (ℕ × List (List ℕ)) TextKind
     one x = Ok (x, [])
 
-    behind : ℕ × List (List ℕ) → Result (List ℕ) TextKind
-    behind id = first_by (below_in n) id.1 >>= λ stated. all_by (below_in n) [] stated.1 >>= tests own id.0 stated.0
+    following : ℕ × List (List ℕ) → Result (List ℕ) TextKind
+    following id = first_by (below_in n) id.1 >>= λ stated. all_by (below_in n) [] stated.1 >>= tests own id.0 stated.0
 
-    by : (r : Result ℕ TextKind) → ((r >>= one) >>= behind) ≡ Ok ids → ⊥
+    by : (r : Result ℕ TextKind) → ((r >>= one) >>= following) ≡ Ok ids → ⊥
     by (Ok x) e = absurd cc
     by (Err kind) e = absurd cc
 preds_counted n own (id ∷ k ∷ others) ids e =
     let two : nat_lt (length (id ∷ k ∷ others)) 2 ≡ false = le-ltb _ 2 (omega arith) in
     preds_by_count n own (id ∷ k ∷ others) ∙ rw two e
 
--- values, of a line of as many fields as it has to have
+-- values, from a line with the required number of fields
 pub values_counted : (n destinations before : ℕ) (fields : List (List ℕ)) → length fields ≡ destinations + 1
     → values_stated n destinations before fields ≡ uncounted_values n before fields
 unfolding values_stated
@@ -129,10 +129,10 @@ values_counted n destinations before (field ∷ rest) count =
     pair : ℕ → Result (ℕ × List (List ℕ)) TextKind
     pair b = Ok (b, rest)
 
-    behind : ℕ × List (List ℕ) → Result (List ℤ) TextKind
-    behind b = all_by decimal_in [] b.1 >>= ordered b.0
+    following : ℕ × List (List ℕ) → Result (List ℤ) TextKind
+    following b = all_by decimal_in [] b.1 >>= ordered b.0
 
-    first : (r : Result ℕ TextKind) → (r >>= λ b. each_of decimal_in rest >>= ordered b) ≡ ((r >>= pair) >>= behind)
+    first : (r : Result ℕ TextKind) → (r >>= λ b. each_of decimal_in rest >>= ordered b) ≡ ((r >>= pair) >>= following)
     first (Ok b) = sym (all_each decimal_in [] rest (ordered b))
     first (Err kind) = refl
 

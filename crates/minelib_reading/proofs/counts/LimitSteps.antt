@@ -1,4 +1,4 @@
--- A line of a limit, whose fields are counted first, as the code takes it.
+-- A limit's line as the code reads it, with its fields counted first.
 use Rattle.std.specs.Prelude.{Bool, Err, List, Ok, Result, codes, if◌then◌else◌, not, ℕ, ℤ, ◌==◌}
 use Rattle.std.proofs.Common.{[], ap, arith, false, length, refl, true, ◌∙◌, ◌∷◌, ◌≡◌}
 use Rattle.std.proofs.lemmas.Bool.{eqb-true}
@@ -14,7 +14,7 @@ use Rattle.text_lines.specs.declared.text_fault.TextKind.TheVariants.{Fields, Na
 use Rattle.minelib_reading.specs.ModelText.{bound_stated, limit_stated}
 use Rattle.minelib_reading.specs.inner.UncountedItems.{bound_in, limit_steps, limit_width}
 
--- the bound of an interval's five fields, and of the four of another limit
+-- the bound of an interval's five fields, and of another limit's four fields
 five_fields : (r t letter v w : List ℕ) → bound_stated (r ∷ t ∷ letter ∷ v ∷ w ∷ []) ≡ bound_in (letter ∷ v ∷ w ∷ [])
 five_fields r t letter v w =
     by (bytes_eq letter (codes "L")) (bytes_eq letter (codes "G")) (bytes_eq letter (codes "I")) (decimal_in v) (decimal_in w) refl
@@ -58,7 +58,7 @@ four_fields r t letter v none = rw none (by (bytes_eq letter (codes "L")) (bytes
     by false true (Err kind) = refl
     by false false one = refl
 
--- the fields of a limit at their places, and one by one
+-- the fields of a limit by place, and one by one
 abbrev placed : ℕ → ℕ → List (List ℕ) → Result Limit TextKind
 placed resources periods fields = do
   resource ← below_in resources (field_at fields 0)
@@ -66,9 +66,9 @@ placed resources periods fields = do
   bound ← bound_stated fields
   Ok (record { resource = resource; period = period; bound = bound })
 
-behind_two : (resources periods : ℕ) (r t : List ℕ) (rest : List (List ℕ)) → bound_stated (r ∷ t ∷ rest) ≡ bound_in rest
+after_two : (resources periods : ℕ) (r t : List ℕ) (rest : List (List ℕ)) → bound_stated (r ∷ t ∷ rest) ≡ bound_in rest
     → placed resources periods (r ∷ t ∷ rest) ≡ limit_steps resources periods (r ∷ t ∷ rest)
-behind_two resources periods r t rest same = by (below_in resources r) (below_in periods t) refl
+after_two resources periods r t rest same = by (below_in resources r) (below_in periods t) refl
   where
     limit_with : ℕ → ℕ → Bound → Result Limit TextKind
     limit_with resource period bound = Ok (record { resource = resource; period = period; bound = bound })
@@ -94,12 +94,12 @@ behind_two resources periods r t rest same = by (below_in resources r) (below_in
     by (Err kind) next e = refl
 
 five : (resources periods : ℕ) (fields : List (List ℕ)) → length fields ≡ 5 → placed resources periods fields ≡ limit_steps resources periods fields
-five resources periods (r ∷ t ∷ letter ∷ v ∷ w ∷ []) count = behind_two resources periods r t (letter ∷ v ∷ w ∷ []) (five_fields r t letter v w)
+five resources periods (r ∷ t ∷ letter ∷ v ∷ w ∷ []) count = after_two resources periods r t (letter ∷ v ∷ w ∷ []) (five_fields r t letter v w)
 five resources periods fields count = absurd (omega (arith, count))
 
 four : (resources periods : ℕ) (fields : List (List ℕ)) → bytes_eq (field_at fields 2) (codes "I") ≡ false → length fields ≡ 4
     → placed resources periods fields ≡ limit_steps resources periods fields
-four resources periods (r ∷ t ∷ letter ∷ v ∷ []) none count = behind_two resources periods r t (letter ∷ v ∷ []) (four_fields r t letter v none)
+four resources periods (r ∷ t ∷ letter ∷ v ∷ []) none count = after_two resources periods r t (letter ∷ v ∷ []) (four_fields r t letter v none)
 four resources periods fields none count = absurd (omega (arith, count))
 
 pub limit_same : (resources periods : ℕ) (fields : List (List ℕ))

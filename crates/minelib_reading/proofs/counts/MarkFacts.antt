@@ -1,4 +1,4 @@
--- What marks tell of the numbers that were marked.
+-- What marks show of the marked numbers.
 use Rattle.std.proofs.Common.{◌≡◌, ◌≢◌, length-append, ℕ, zero, suc, ◌+◌, ◌<◌, ◌==◌, ◌||◌, Bool, true, false, List, [], ◌∷◌, ◌++◌, length, take, drop, refl, sym, ap, ◌∙◌, subst, arith, get_or}
 use Rattle.std.specs.Prelude.{All, IsTrue, nat_lt, slice_index_or, slice_set}
 use Rattle.std.proofs.Math.Seq.{take-suc}
@@ -17,7 +17,7 @@ use Rattle.minelib_reading.specs.PrecText.{stands_in, all_differ}
 one_more : (ids : List ℕ) (id place : ℕ) → stands_in (ids ++ id ∷ []) place ≡ (stands_in ids place || ((id == place) || false))
 one_more ids id place = list_any-append (λ other. other == place) ids (id ∷ [])
 
--- a number that stands before another place makes the numbers no longer differ
+-- if a number also appears at a later place, the numbers are not distinct
 stands_twice : (ids : List ℕ) (id : ℕ) (rest : List ℕ) → stands_in ids id ≡ true → all_differ (ids ++ id ∷ rest) ≡ false
 stands_twice ids id rest e = by (all_differ (ids ++ id ∷ rest)) refl
   where
@@ -29,12 +29,12 @@ stands_twice ids id rest e = by (all_differ (ids ++ id ∷ rest)) refl
         absurd (pairs_differ (ids ++ id ∷ rest) differ there.0 (length ids) there.1 there.2 (omega (arith, length-append ids (id ∷ rest)))
         (same ∙ sym (get_or_at ids id rest there.1 (length ids) refl)))
 
--- numbers that differ, and one more that does not stand among them
+-- distinct numbers with another one that is not among them
 differ_more : (ids : List ℕ) (id : ℕ) → all_differ ids ≡ true → stands_in ids id ≡ false → all_differ (ids ++ id ∷ []) ≡ true
 differ_more ids id e new =
     differ_again (ids ++ id ∷ []) (all_pairs_push (λ a b. a ≢ b) ids id (pairs_differ ids e) (others_differ id ids new))
 
--- just the numbers of a list are marked
+-- exactly the numbers of a list are marked
 abbrev pub AreJustMarked : List ℕ → List Bool → Type 0
 AreJustMarked ids marks = (place : ℕ) → slice_index_or marks place false ≡ stands_in ids place
 
@@ -47,30 +47,30 @@ marked_more ids marks id within just place = at (id == place) refl where
   at false e = get_or-set_other marks id place true false (grind (arith, nat_tests, e)) ∙ just place
       ∙ sym (one_more ids id place ∙ rw e (or-false (stands_in ids place)))
 
--- numbers up to a place, the one there, and those behind it
+-- the numbers before a place, the number there, and the later ones
 parts_at : (ids : List ℕ) (place : ℕ) → place < length ids → ids ≡ take place ids ++ get_or ids place 0 ∷ drop (suc place) ids
 parts_at [] place within = absurd (omega (arith, within))
 parts_at (id ∷ ids) zero within = refl
 parts_at (id ∷ ids) (suc place) within = ap (λ rest. id ∷ rest) (parts_at ids place (omega (arith, within)))
 
--- where the number at a place is marked already
+-- if the number at a place is already marked
 pub repeated : (ids : List ℕ) (marks : List Bool) (place : ℕ) → place < length ids → AreJustMarked (take place ids) marks
     → slice_index_or marks (get_or ids place 0) false ≡ true → all_differ ids ≡ false
 repeated ids marks place within just stands =
     subst (λ all. all_differ all ≡ false) (sym (parts_at ids place within))
     (stands_twice (take place ids) (get_or ids place 0) (drop (suc place) ids) (sym (just (get_or ids place 0)) ∙ stands))
 
--- marks of the first numbers are of the list
+-- the marked first numbers are in the list
 pub marked_of_all : (ids : List ℕ) (marks : List Bool) (place : ℕ) → place < length ids → AreJustMarked (take place ids) marks
     → AreMarked ids marks
 marked_of_all ids marks place within just at h =
-    let behind = get_or ids place 0 ∷ drop (suc place) ids in
+    let following = get_or ids place 0 ∷ drop (suc place) ids in
     let first : stands_in (take place ids) at ≡ true = sym (just at) ∙ h in
-    let whole : stands_in (take place ids ++ behind) at ≡ true =
-    list_any-append (λ other. other == at) (take place ids) behind ∙ rw first refl in
+    let whole : stands_in (take place ids ++ following) at ≡ true =
+    list_any-append (λ other. other == at) (take place ids) following ∙ rw first refl in
     subst (λ all. IsTrue (stands_in all at)) (sym (parts_at ids place within)) whole
 
--- the number at a place is marked where it is not yet
+-- marking the number at a place, if it is not marked yet
 pub marked_at : (ids : List ℕ) (marks : List Bool) (place : ℕ) → place < length ids → get_or ids place 0 < length marks
     → all_differ (take place ids) ≡ true → AreJustMarked (take place ids) marks → slice_index_or marks (get_or ids place 0) false ≡ false
     → (all_differ (take (place + 1) ids) ≡ true) × AreJustMarked (take (place + 1) ids) (slice_set marks (get_or ids place 0) true)
@@ -88,7 +88,7 @@ rising_above own (id ∷ ids) e =
     let first : own < id = ltb-true own id parts.0 in
     All-cons (λ other. own < other) id ids first (λ k d within. let above = rising_above id ids parts.1 k d within in omega (arith, first, above))
 
--- and differ from it and from one another
+-- and are distinct, and other than it
 pub rising_differ : (own : ℕ) (ids : List ℕ) → rise_above own ids ≡ true → (stands_in ids own ≡ false) × (all_differ ids ≡ true)
 rising_differ own [] e = (refl, refl)
 rising_differ own (id ∷ ids) e =

@@ -1,4 +1,4 @@
--- What a header has once a key with a number was added to it, key by key.
+-- A header after a key and its number were added, key by key.
 use Rattle.std.specs.Prelude.{◌≡◌, ◌≢◌, ℕ, zero, suc, ◌<◌, ◌==◌, ◌⊎◌, Bool, true, false, List, ◌∷◌, length, map, not, Option, Some, None, is_some, unwrap_or, slice_index_or, if◌then◌else◌}
 use Rattle.std.specs.List.{Contains, list_all, range_with_len}
 use Rattle.std.proofs.Common.{refl, sym, ◌∙◌, ap, subst, arith, inl, inr, eq-eqb, set, get_or}
@@ -9,7 +9,7 @@ use Rattle.std.proofs.lemmas.List.Sums.{AllPass-from_list_all, list_all-from_All
 use Rattle.minelib_lines.specs.HeaderKeys.{has_key, header_keys, place}
 use Rattle.minelib_reading.specs.HeaderNumbers.{number_of, with_key, count_in, is_given, is_complete}
 use Rattle.minelib_reading.specs.ModelDraft.{blank_header, name_with}
-use Rattle.minelib_reading.specs.spelled.SpelledModel.{IsSingle}
+use Rattle.minelib_reading.specs.encoded.EncodedModel.{IsSingle}
 use Rattle.minelib_reading.specs.inner.ModelParts.{number_limit}
 use Rattle.minelib_reading.specs.declared.model.key.Header.{Header}
 use Rattle.minelib_lines.specs.declared.header_key.HeaderKey.{HeaderKey}
@@ -29,14 +29,14 @@ key_there k = refl
 one_place : (j k : HeaderKey) → place j ≡ place k → j ≡ k
 one_place j k same = sym (key_there j) ∙ ap key_at same ∙ key_there k
 
--- the number of each key behind another
+-- the number of each key after another was added
 entry : (h : Header) (k : HeaderKey) (n : ℕ) (j : HeaderKey)
     → number_of (with_key h k n) j ≡ (if place j == place k then Some n else number_of h j)
 unfolding with_key
 entry h k n key.Name = refl
 entry h k n j = refl
 
--- what holds of a new number and of what was there for each other key holds of each key
+-- if the new number and the old number of each other key have a property, the number of each key has it
 pub each_with : (P : HeaderKey → Option ℕ → Type 0) (h : Header) (k : HeaderKey) (n : ℕ) → P k (Some n)
     → ((j : HeaderKey) → k ≢ j → P j (number_of h j)) → (j : HeaderKey) → P j (number_of (with_key h k n) j)
 each_with P h k n here others j = subst (P j) (sym (entry h k n j)) (by (place j == place k) refl)
@@ -50,7 +50,7 @@ each_with P h k n here others j = subst (P j) (sym (entry h k n j)) (by (place j
 pub with_same : (h : Header) (k : HeaderKey) (n : ℕ) → number_of (with_key h k n) k ≡ Some n
 with_same h k n = each_with (λ j number. k ≡ j → number ≡ Some n) h k n (λ _. refl) (λ j other same. absurd (other same)) k refl
 
--- another key leaves the number of this one, and the name
+-- another key changes neither the number of this key, nor the name
 pub number_kept : (h : Header) (k j : HeaderKey) (n : ℕ) → k ≢ j → number_of (with_key h k n) j ≡ number_of h j
 number_kept h k j n differ =
     each_with (λ j found. k ≢ j → found ≡ number_of h j) h k n (λ other. absurd (other refl)) (λ j _ _. refl) j differ
@@ -62,7 +62,7 @@ name_kept k value name differ = refl
 pub count_there : (h : Header) (n : ℕ) (k : HeaderKey) → count_in (with_key h k n) k ≡ n
 count_there h n k = ap (λ number. unwrap_or number 0) (with_same h k n)
 
--- before the first line just the keys that the problem's files do not have are given
+-- before the first line, exactly the keys that the problem's files do not have are given
 pub first_given : (problem : Problem) (k : HeaderKey) → is_given k (blank_header problem) ≡ not (has_key problem k)
 unfolding with_key
 first_given Pcpsp key.Name = refl
@@ -70,7 +70,7 @@ first_given Pcpsp k = refl
 first_given Cpit key.Name = refl
 first_given Cpit k = refl
 
--- numbers below the limits of their keys
+-- numbers are below the limits of their keys
 pub numbers_below : (h : Header) (k : HeaderKey) (n : ℕ) → n < number_limit k → ((j : HeaderKey) → count_in h j < number_limit j)
     → (j : HeaderKey) → count_in (with_key h k n) j < number_limit j
 numbers_below h k n here were = each_with (λ j number. unwrap_or number 0 < number_limit j) h k n here (λ j _. were j)
@@ -97,7 +97,7 @@ key_set xs k n count =
     here key.Name = refl
     here k = refl
 
--- all keys stood where all of their numbers are there
+-- all keys were read if all their numbers are there
 pub all_numbers : (xs : List (Option ℕ)) → length xs ≡ KEYS
     → list_all (λ number. is_some number) xs ≡ is_complete (record { numbers = xs })
 all_numbers xs count = ap (λ ys. list_all (λ number. is_some number) ys) (fill_by_all (λ i. get_or xs i None) xs KEYS None count (λ i h. refl))
@@ -114,7 +114,7 @@ each_key k = (place k, inside k, there k)
     there key.Name = refl
     there k = refl
 
--- a header with all keys has each
+-- a header with all keys has each key
 pub each_given : (h : Header) → is_complete h ≡ true → (k : HeaderKey) → is_given k h ≡ true
 each_given h all k =
     All-contains (λ j. is_given j h ≡ true) header_keys k (AllPass-from_list_all (λ j. is_given j h) header_keys all) (each_key k)
@@ -128,7 +128,7 @@ pub contains_cases : (k : HeaderKey) (keys : List HeaderKey) (j : HeaderKey) (i 
 contains_cases k keys j zero inside is = inl is
 contains_cases k keys j (suc i) inside is = inr (i, omega arith, is)
 
--- what has no key in the files of a problem is as before the first
+-- keys that the problem's files do not have are as before the first line
 abbrev pub KeepsOwn : Problem → Header → Type 0
 KeepsOwn problem h = (k : HeaderKey) → is_given k (blank_header problem) ≡ true → number_of h k ≡ number_of (blank_header problem) k
 

@@ -1,10 +1,10 @@
--- The lines of a header, one for each key: what a line adds to those before it.
+-- The lines of a header, one for each key: what a line adds to earlier lines.
 use Rattle.std.specs.Prelude.{AllPairs, List, is_some, not, pos, unwrap_or, ℕ, ◌≢◌, ◌⊎◌}
 use Rattle.std.proofs.Common.{All, [], ap, arith, false, inl, inr, refl, subst, sym, true, ◌++◌, ◌+◌, ◌∙◌, ◌∷◌, ◌≡◌}
 use Rattle.std.proofs.lemmas.List.Elements.{All-nil, All-push, Contains-append_left, Contains-push}
 use Rattle.std.proofs.lemmas.List.Quantifiers.{all_pairs_push}
 use Rattle.std.specs.List.{Contains}
-use Rattle.pit_units.specs.SpelledNumbers.{SpellsBelow, SpellsNumber, SpellsWhole}
+use Rattle.pit_units.specs.EncodedNumbers.{EncodesBelow, EncodesInteger, EncodesNumber}
 use Rattle.plan_parts.specs.declared.ranges.TheConstants.{MAX_DESTINATIONS, MAX_PERIODS, MAX_RATE, MAX_RESOURCES}
 use Rattle.text_lines.specs.TextLines.{Line}
 use Rattle.minelib_lines.specs.HeaderKeys.{has_key}
@@ -17,40 +17,40 @@ use Rattle.minelib_reading.specs.HeaderNumbers.{count_in, is_complete, is_given,
 use Rattle.minelib_reading.specs.ModelDraft.{blank_header, name_with}
 use Rattle.minelib_reading.specs.StatedModel.{header_stated}
 use Rattle.minelib_reading.specs.declared.model.key.Header.{Header}
-use Rattle.minelib_reading.specs.spelled.SpelledLines.{AreLines}
-use Rattle.minelib_reading.specs.spelled.SpelledModel.{AreHeaderLines, IsHeaderLine, IsSingle, SpellsKey}
+use Rattle.minelib_reading.specs.encoded.EncodedLines.{AreLines}
+use Rattle.minelib_reading.specs.encoded.EncodedModel.{AreHeaderLines, EncodesKey, IsHeaderLine, IsSingle}
 
--- the header's lines so far: one for each key that is given
+-- the header's lines so far: one for each given key
 pub record Heads (problem : Problem) (n : ℕ) (name : List ℕ) (h : Header) (lines : List Line) : Type 0 where
   pub keys : List HeaderKey
-  pub spelled : AreLines (λ _ line k. IsHeaderLine problem n (header_stated name h) line k) 0 lines keys
+  pub encoded : AreLines (λ _ line k. IsHeaderLine problem n (header_stated name h) line k) 0 lines keys
   pub once : AllPairs (λ k j. k ≢ j) keys
   pub given : All (λ k. is_given k h ≡ true) keys
   pub all : (k : HeaderKey) → has_key problem k ≡ true → is_given k h ≡ true → Contains keys k
   pub own : KeepsOwn problem h
 
--- another key leaves the value of this one
+-- another key does not change the value of this key
 count_kept : (h : Header) (k j : HeaderKey) (number : ℕ) → k ≢ j → count_in (with_key h k number) j ≡ count_in h j
 count_kept h k j number differ =
     ap (λ found. unwrap_or found 0) (number_kept h k j number differ)
 
--- and what its value spells
-spells_kept : (problem : Problem) (n : ℕ) (k j : HeaderKey) (value name : List ℕ) (h : Header) (number : ℕ) (text : List ℕ) → k ≢ j
-    → SpellsKey problem n (header_stated name h) j text → SpellsKey problem n (header_stated (name_with k value name) (with_key h k number)) j text
-spells_kept problem n k key.Name value name h number text differ s = (s.0 ∙ sym (name_kept k value name differ), s.1)
-spells_kept problem n k key.Type value name h number text differ s = s
-spells_kept problem n k key.Blocks value name h number text differ s = s
-spells_kept problem n k key.Periods value name h number text differ s =
-    subst (SpellsWhole 1 MAX_PERIODS text) (sym (count_kept h k key.Periods number differ)) s
-spells_kept problem n k key.Destinations value name h number text differ s =
-    subst (SpellsWhole 1 MAX_DESTINATIONS text) (sym (count_kept h k key.Destinations number differ)) s
-spells_kept problem n k key.Resources value name h number text differ s =
-    subst (SpellsBelow (MAX_RESOURCES + 1) text) (sym (count_kept h k key.Resources number differ)) s
-spells_kept problem n k key.General value name h number text differ s = s
-spells_kept problem n k key.Rate value name h number text differ s =
-    subst (λ m. SpellsNumber 6 (pos 0) MAX_RATE text (pos m)) (sym (count_kept h k key.Rate number differ)) s
+-- nor what its value encodes
+encodes_kept : (problem : Problem) (n : ℕ) (k j : HeaderKey) (value name : List ℕ) (h : Header) (number : ℕ) (text : List ℕ) → k ≢ j
+    → EncodesKey problem n (header_stated name h) j text → EncodesKey problem n (header_stated (name_with k value name) (with_key h k number)) j text
+encodes_kept problem n k key.Name value name h number text differ s = (s.0 ∙ sym (name_kept k value name differ), s.1)
+encodes_kept problem n k key.Type value name h number text differ s = s
+encodes_kept problem n k key.Blocks value name h number text differ s = s
+encodes_kept problem n k key.Periods value name h number text differ s =
+    subst (EncodesInteger 1 MAX_PERIODS text) (sym (count_kept h k key.Periods number differ)) s
+encodes_kept problem n k key.Destinations value name h number text differ s =
+    subst (EncodesInteger 1 MAX_DESTINATIONS text) (sym (count_kept h k key.Destinations number differ)) s
+encodes_kept problem n k key.Resources value name h number text differ s =
+    subst (EncodesBelow (MAX_RESOURCES + 1) text) (sym (count_kept h k key.Resources number differ)) s
+encodes_kept problem n k key.General value name h number text differ s = s
+encodes_kept problem n k key.Rate value name h number text differ s =
+    subst (λ m. EncodesNumber 6 (pos 0) MAX_RATE text (pos m)) (sym (count_kept h k key.Rate number differ)) s
 
--- a key that is given is that of the line, or was given before it
+-- a given key is the line's key, or was given before
 given_by : (h : Header) (k : HeaderKey) (n : ℕ) (j : HeaderKey) → is_given j (with_key h k n) ≡ true → (k ≡ j) ⊎ (is_given j h ≡ true)
 given_by h k n j is =
     each_with (λ j number. is_some number ≡ true → (k ≡ j) ⊎ (is_given j h ≡ true)) h k n (λ _. inl refl) (λ j differ is. inr is) j is
@@ -62,7 +62,7 @@ given_still h k n j was =
 pub heads_none : (problem : Problem) (n : ℕ) → Heads problem n [] (blank_header problem) []
 heads_none problem n = record {
   keys = [];
-  spelled = tt;
+  encoded = tt;
   once = λ i j d less within. absurd (omega arith);
   given = All-nil (λ k. is_given k (blank_header problem) ≡ true);
   all = λ k has is. absurd (let none = first_given problem k ∙ ap not has in cc);
@@ -74,10 +74,10 @@ pub heads_more : (problem : Problem) (n : ℕ) (k : HeaderKey) (value name : Lis
     → Heads problem n name h lines → Heads problem n (name_with k value name) (with_key h k number) (lines ++ line ∷ [])
 heads_more problem n k value name h number lines line new here heads = record {
   keys = heads.keys ++ k ∷ [];
-  spelled = line_more (λ _ text j. IsHeaderLine problem n (header_stated (name_with k value name) next) text j) 0 lines heads.keys line k
+  encoded = line_more (λ _ text j. IsHeaderLine problem n (header_stated (name_with k value name) next) text j) 0 lines heads.keys line k
       (lines_weaker (λ _ text j. IsHeaderLine problem n (header_stated name h) text j)
       (λ _ text j. IsHeaderLine problem n (header_stated (name_with k value name) next) text j) (λ j. is_given j h ≡ true)
-      (λ _ text j given l. still j (differs j given) l) 0 lines heads.keys heads.given heads.spelled)
+      (λ _ text j given l. still j (differs j given) l) 0 lines heads.keys heads.given heads.encoded)
       here;
   once = all_pairs_push (λ m l. m ≢ l) heads.keys k heads.once (λ i d within same. differs _ (heads.given i d within) (sym same));
   given = All-push (λ j. is_given j next ≡ true) heads.keys k (λ i d within. given_still h k number _ (heads.given i d within))
@@ -92,7 +92,7 @@ heads_more problem n k value name h number lines line new here heads = record {
     next : Header
     next = with_key h k number
 
-    -- the key of the line was not given
+    -- the key of the line was not given before
     differs : (j : HeaderKey) → is_given j h ≡ true → k ≢ j
     differs j is same = let was : is_given k h ≡ true = subst (λ m. is_given m h ≡ true) (sym same) is in absurd cc
 
@@ -102,23 +102,23 @@ heads_more problem n k value name h number lines line new here heads = record {
       value = l.value;
       is_key = l.is_key;
       of_problem = l.of_problem;
-      says = spells_kept problem n k j value name h number l.value differ l.says;
+      says = encodes_kept problem n k j value name h number l.value differ l.says;
     }
 
--- the lines of a header that lacks no key
+-- the lines of a complete header
 pub record WholeHeader (problem : Problem) (n : ℕ) (name : List ℕ) (h : Header) (lines : List Line) : Type 0 where
   pub complete : is_complete h ≡ true
   pub single : IsSingle problem (count_in h key.Destinations)
-  pub spelled : AreHeaderLines problem n lines (header_stated name h)
+  pub encoded : AreHeaderLines problem n lines (header_stated name h)
 
 pub heads_whole : (problem : Problem) (n : ℕ) (name : List ℕ) (h : Header) (lines : List Line) → is_complete h ≡ true
     → Heads problem n name h lines → WholeHeader problem n name h lines
 heads_whole problem n name h lines complete heads = record {
   complete = complete;
   single = own_single problem h heads.own;
-  spelled = record {
+  encoded = record {
     keys = heads.keys;
-    spelled = heads.spelled;
+    encoded = heads.encoded;
     once = heads.once;
     all = λ k has. heads.all k has (each_given h complete k);
   };

@@ -15,7 +15,7 @@ use Rattle.minelib_lines.specs.declared.problem.Problem.TheVariants.{Pcpsp, Cpit
 use Rattle.minelib_reading.specs.ModelKeys.{header_or, is_colon, key_in, key_of, section_in, sections, section_text}
 use Rattle.minelib_reading.specs.ModelDraft.{is_next}
 use Rattle.minelib_lines.specs.HeaderKeys.{has_key, header_keys, key_word, keys_of}
-use Rattle.minelib_reading.specs.spelled.SpelledKeys.{IsKeyLine}
+use Rattle.minelib_reading.specs.encoded.EncodedKeys.{IsKeyLine}
 use Rattle.minelib_lines.specs.declared.header_key.HeaderKey.{HeaderKey}
 use Rattle.minelib_lines.specs.declared.header_key.HeaderKey.TheVariants as key
 use Rattle.minelib_reading.specs.declared.model.key.ModelKey.{ModelKey}
@@ -24,7 +24,7 @@ use Rattle.minelib_reading.specs.declared.model.key.Section.{Section}
 use Rattle.minelib_reading.specs.declared.model.key.Section.TheVariants.{Heading, Objective, Coefs, Limits}
 use Rattle.minelib_reading.proofs.keys.Keyless.{have_colon, keyless}
 
--- a line with a colon is cut at the first
+-- a line with a colon is cut at the first one
 colon_inside : (line : List ℕ) → list_any is_colon line ≡ true → position_or_len is_colon line < length line
 colon_inside [] some = absurd cc
 colon_inside (b ∷ bytes) some = by (λ later. colon_inside bytes later) (is_colon b) refl some
@@ -40,21 +40,21 @@ first_cut line some =
     split_at_first is_colon line 58 inside
     ∙ ap (λ c. before_first is_colon line ++ c ∷ after_first is_colon line) (eqb-true _ 58 (passes_at_first is_colon line 58 inside))
 
--- the first colon stands behind what has none
-colon_place : (front rest : List ℕ) → list_any is_colon front ≡ false → position_or_len is_colon (front ++ 58 ∷ rest) ≡ length front
+-- the first colon follows bytes without a colon
+colon_place : (prefix rest : List ℕ) → list_any is_colon prefix ≡ false → position_or_len is_colon (prefix ++ 58 ∷ rest) ≡ length prefix
 colon_place [] rest none = refl
-colon_place (c ∷ front) rest none =
-    let parts = or_parts (is_colon c) (list_any is_colon front) none in
-    rw (parts.0, colon_place front rest parts.1) (omega arith)
+colon_place (c ∷ prefix) rest none =
+    let parts = or_parts (is_colon c) (list_any is_colon prefix) none in
+    rw (parts.0, colon_place prefix rest parts.1) (omega arith)
 
-has_colon : (front rest : List ℕ) → list_any is_colon (front ++ 58 ∷ rest) ≡ true
+has_colon : (prefix rest : List ℕ) → list_any is_colon (prefix ++ 58 ∷ rest) ≡ true
 has_colon [] rest = refl
-has_colon (c ∷ front) rest = rw (has_colon front rest) (or_right (is_colon c) true refl)
+has_colon (c ∷ prefix) rest = rw (has_colon prefix rest) (or_right (is_colon c) true refl)
 
-behind_front : (front rest : List ℕ) → drop (length front + 1) (front ++ 58 ∷ rest) ≡ rest
-behind_front front rest = sym (drop-drop 1 (length front) (front ++ 58 ∷ rest)) ∙ ap (drop 1) (drop_at front (58 ∷ rest) (length front) refl)
+after_front : (prefix rest : List ℕ) → drop (length prefix + 1) (prefix ++ 58 ∷ rest) ≡ rest
+after_front prefix rest = sym (drop-drop 1 (length prefix) (prefix ++ 58 ∷ rest)) ∙ ap (drop 1) (drop_at prefix (58 ∷ rest) (length prefix) refl)
 
--- as the reader cuts it
+-- a line as the reader cuts it
 pub record IsCutLine (key line : List ℕ) (fields : List (List ℕ)) : Type 0 where
   pub colon : list_any is_colon line ≡ true
   pub key_is : fields_of (before_first is_colon line) ≡ key ∷ []
@@ -63,7 +63,7 @@ pub record IsCutLine (key line : List ℕ) (fields : List (List ℕ)) : Type 0 w
 pub key_line : (key line : List ℕ) (fields : List (List ℕ)) → IsCutLine key line fields → IsKeyLine key line fields
 key_line key line fields c = record {
   before = before_first is_colon line;
-  behind = after_first is_colon line;
+  following = after_first is_colon line;
   cut = first_cut line c.colon;
   key_alone = c.key_is;
   fields_are = c.fields_are;
@@ -72,26 +72,26 @@ key_line key line fields c = record {
 pub cut_line : (key line : List ℕ) (fields : List (List ℕ)) → list_any is_colon key ≡ false → IsKeyLine key line fields
     → IsCutLine key line fields
 cut_line key line fields none k = subst (λ line. IsCutLine key line fields) (sym k.cut) (record {
-  colon = has_colon k.before k.behind;
-  key_is = ap fields_of front ∙ k.key_alone;
+  colon = has_colon k.before k.following;
+  key_is = ap fields_of prefix ∙ k.key_alone;
   fields_are = ap fields_of rest ∙ k.fields_are;
 })
   where
     no_colon : list_any is_colon k.before ≡ false
     no_colon = keyless k.before (ap have_colon k.key_alone ∙ rw none refl)
 
-    front : before_first is_colon (k.before ++ 58 ∷ k.behind) ≡ k.before
-    front = rw (colon_place k.before k.behind no_colon) (take_at k.before (58 ∷ k.behind) (length k.before) refl)
+    prefix : before_first is_colon (k.before ++ 58 ∷ k.following) ≡ k.before
+    prefix = rw (colon_place k.before k.following no_colon) (take_at k.before (58 ∷ k.following) (length k.before) refl)
 
-    rest : after_first is_colon (k.before ++ 58 ∷ k.behind) ≡ k.behind
-    rest = rw (colon_place k.before k.behind no_colon) (behind_front k.before k.behind)
+    rest : after_first is_colon (k.before ++ 58 ∷ k.following) ≡ k.following
+    rest = rw (colon_place k.before k.following no_colon) (after_front k.before k.following)
 
 -- a word is the key's own, in the files of the problem
 abbrev pub IsKeyOf : Problem → List ℕ → ModelKey → Type 0
 IsKeyOf problem word (model_key.Header k) = (word ≡ key_word k) × (has_key problem k ≡ true)
 IsKeyOf problem word (model_key.Section section) = word ≡ section_text section
 
--- what is found among items passes the test, and is as they all are
+-- an item that is found passes the test, and has the property of all items
 found_is : {A : Type 0} (passes : A → Bool) (Is : A → Type 0) (xs : List A) (x : A) → All Is xs → find passes xs ≡ Some x
     → (passes x ≡ true) × Is x
 found_is passes Is [] x are e = absurd cc
@@ -138,7 +138,7 @@ key_found problem [] found e = absurd cc
 key_found problem (word ∷ []) found e = record { word = word; alone = refl; is = key_in_is problem word found e }
 key_found problem (word ∷ other ∷ more) found e = absurd cc
 
--- what holds of each section and the next
+-- a property of each section and the next
 pub next_by : (P : Section → Section → Type 0) → P Heading Objective → P Objective Coefs → P Coefs Limits
     → (now next : Section) → is_next now next ≡ true → P now next
 next_by P objective coefs limits Heading Objective e = objective

@@ -1,4 +1,4 @@
--- What the value of a header key states, what it spells, and how the code takes it.
+-- What the value of a header key states and encodes, and how the code reads it.
 use Rattle.std.specs.Prelude.{Bool, Err, IfOk, List, Ok, Result, if◌then◌else◌, negsuc, pos, unsigned_abs, ℕ, ℤ, ◌*◌, ◌-ℤ◌, ◌/◌, ◌==◌, ◌^◌, ◌≤ℤ◌}
 use Rattle.std.proofs.Common.{ap, arith, false, refl, subst, sym, true, ◌+◌, ◌<◌, ◌∙◌, ◌≡◌}
 use Rattle.std.proofs.lemmas.Bool.{eq-eqb, eqb-true}
@@ -6,7 +6,7 @@ use Rattle.std.proofs.lemmas.Int.{ints}
 use Rattle.std.proofs.lemmas.Slice.Eq.{bytes_eq-Decides}
 use Rattle.std.specs.Str.{bytes_eq}
 use Rattle.pit_units.proofs.Exactly.{Exactly, as_, done, made, then_}
-use Rattle.pit_units.specs.SpelledNumbers.{SpellsBelow, SpellsNumber, SpellsWhole}
+use Rattle.pit_units.specs.EncodedNumbers.{EncodesBelow, EncodesInteger, EncodesNumber}
 use Rattle.pit_units.specs.Steps.{◌>>=◌}
 use Rattle.plan_parts.specs.Name.{is_name}
 use Rattle.plan_parts.specs.declared.ranges.TheConstants.{MAX_BLOCKS, MAX_DESTINATIONS, MAX_PERIODS, MAX_RATE, MAX_RESOURCES}
@@ -28,28 +28,28 @@ use Rattle.minelib_reading.specs.ModelKeys.{number_stated}
 use Rattle.minelib_reading.specs.StatedModel.{header_stated}
 use Rattle.minelib_reading.specs.declared.model.key.Header.{Header}
 use Rattle.minelib_reading.specs.inner.ModelParts.{IsFineField, is_name_for, number_limit, number_with, stated_in}
-use Rattle.minelib_reading.specs.spelled.SpelledModel.{SpellsKey}
+use Rattle.minelib_reading.specs.encoded.EncodedModel.{EncodesKey}
 
--- the number that is kept of the value of a key: 0 where the value only has to be right
+-- the number that is stored for a key's value: 0 if the value must only be correct
 abbrev Keeps : Problem → ℕ → HeaderKey → List ℕ → ℕ → Type 0
 Keeps problem n key.Name value number = (is_name value ≡ true) × (number ≡ 0)
 Keeps problem n key.Type value number = (value ≡ type_text problem) × (number ≡ 0)
-Keeps problem n key.Blocks value number = SpellsBelow (MAX_BLOCKS + 1) value n × (number ≡ 0)
-Keeps problem n key.Periods value number = SpellsWhole 1 MAX_PERIODS value number
-Keeps problem n key.Destinations value number = SpellsWhole 1 MAX_DESTINATIONS value number
-Keeps problem n key.Resources value number = SpellsBelow (MAX_RESOURCES + 1) value number
-Keeps problem n key.General value number = SpellsBelow 1 value number
-Keeps problem n key.Rate value number = SpellsNumber 6 (pos 0) MAX_RATE value (pos number)
+Keeps problem n key.Blocks value number = EncodesBelow (MAX_BLOCKS + 1) value n × (number ≡ 0)
+Keeps problem n key.Periods value number = EncodesInteger 1 MAX_PERIODS value number
+Keeps problem n key.Destinations value number = EncodesInteger 1 MAX_DESTINATIONS value number
+Keeps problem n key.Resources value number = EncodesBelow (MAX_RESOURCES + 1) value number
+Keeps problem n key.General value number = EncodesBelow 1 value number
+Keeps problem n key.Rate value number = EncodesNumber 6 (pos 0) MAX_RATE value (pos number)
 
 pub passes : {A : Type 0} {r : Result A TextKind} {P : A → Type 0} (fault : TextKind) (t : Bool) → Exactly r P
     → Exactly (if t then r else Err fault) (λ y. (t ≡ true) × P y)
-passes {A} {r} {P} fault t all = record { told = λ y e. told t refl y e; back = λ y h. rw h.0 (all.back y h.1) }
+passes {A} {r} {P} fault t all = record { reported = λ y e. reported t refl y e; back = λ y h. rw h.0 (all.back y h.1) }
   where
-    told : (b : Bool) → t ≡ b → (y : A) → (if b then r else Err fault) ≡ Ok y → (t ≡ true) × P y
-    told true is y e = (is, all.told y e)
-    told false is y e = absurd cc
+    reported : (b : Bool) → t ≡ b → (y : A) → (if b then r else Err fault) ≡ Ok y → (t ≡ true) × P y
+    reported true is y e = (is, all.reported y e)
+    reported false is y e = absurd cc
 
--- a number that is not negative is its size
+-- a number that is not negative equals its absolute value
 pub from_zero : (z : ℤ) → pos 0 ≤ℤ z → pos (unsigned_abs z) ≡ z
 from_zero (pos k) h = refl
 from_zero (negsuc k) h = absurd (omega (arith, ints))
@@ -62,43 +62,43 @@ keeps p n key.Type value =
     as_ (passes Name (bytes_eq value (type_text p)) (done 0)) (λ y h. (d.0 h.0, h.1)) (λ y h. (d.1 h.0, h.1))
 keeps p n key.Blocks value =
     as_ (then_ (below 64000001 value) (λ blocks. passes Count (blocks == n) (done 0)))
-    (λ y h. (subst (SpellsBelow 64000001 value) (eqb-true h.0 n h.2.0) h.1, h.2.1)) (λ y h. (n, h.0, (eq-eqb n n refl, h.1)))
+    (λ y h. (subst (EncodesBelow 64000001 value) (eqb-true h.0 n h.2.0) h.1, h.2.1)) (λ y h. (n, h.0, (eq-eqb n n refl, h.1)))
 keeps p n key.Periods value = whole 1 MAX_PERIODS value
 keeps p n key.Destinations value = whole 1 MAX_DESTINATIONS value
 keeps p n key.Resources value = below 9 value
 keeps p n key.General value = below 1 value
 keeps p n key.Rate value =
-    made unsigned_abs (number 6 (pos 0) MAX_RATE value (omega arith)) (λ m h. subst (SpellsNumber 6 (pos 0) MAX_RATE value) (sym (from_zero m h.1)) h)
+    made unsigned_abs (number 6 (pos 0) MAX_RATE value (omega arith)) (λ m h. subst (EncodesNumber 6 (pos 0) MAX_RATE value) (sym (from_zero m h.1)) h)
     (λ k h. (pos k, h, refl))
 
--- the value spells what the header then states
-pub number_told : (p : Problem) (n : ℕ) (k : HeaderKey) (value name : List ℕ) (h : Header) (number : ℕ) → number_stated p n k value ≡ Ok number
-    → SpellsKey p n (header_stated (name_with k value name) (with_key h k number)) k value
-number_told p n k value name h number e = by k ((keeps p n k value).told number e)
+-- the value encodes what the header then states
+pub number_reported : (p : Problem) (n : ℕ) (k : HeaderKey) (value name : List ℕ) (h : Header) (number : ℕ) → number_stated p n k value ≡ Ok number
+    → EncodesKey p n (header_stated (name_with k value name) (with_key h k number)) k value
+number_reported p n k value name h number e = by k ((keeps p n k value).reported number e)
   where
-    by : (k : HeaderKey) → Keeps p n k value number → SpellsKey p n (header_stated (name_with k value name) (with_key h k number)) k value
+    by : (k : HeaderKey) → Keeps p n k value number → EncodesKey p n (header_stated (name_with k value name) (with_key h k number)) k value
     by key.Name s = (refl, s.0)
     by key.Type s = s.0
     by key.Blocks s = s.0
-    by key.Periods s = subst (SpellsWhole 1 MAX_PERIODS value) (sym (count_there h number key.Periods)) s
-    by key.Destinations s = subst (SpellsWhole 1 MAX_DESTINATIONS value) (sym (count_there h number key.Destinations)) s
-    by key.Resources s = subst (SpellsBelow (MAX_RESOURCES + 1) value) (sym (count_there h number key.Resources)) s
-    by key.General s = subst (SpellsBelow 1 value) (omega (arith, s.1)) s
-    by key.Rate s = subst (λ m. SpellsNumber 6 (pos 0) MAX_RATE value (pos m)) (sym (count_there h number key.Rate)) s
+    by key.Periods s = subst (EncodesInteger 1 MAX_PERIODS value) (sym (count_there h number key.Periods)) s
+    by key.Destinations s = subst (EncodesInteger 1 MAX_DESTINATIONS value) (sym (count_there h number key.Destinations)) s
+    by key.Resources s = subst (EncodesBelow (MAX_RESOURCES + 1) value) (sym (count_there h number key.Resources)) s
+    by key.General s = subst (EncodesBelow 1 value) (omega (arith, s.1)) s
+    by key.Rate s = subst (λ m. EncodesNumber 6 (pos 0) MAX_RATE value (pos m)) (sym (count_there h number key.Rate)) s
 
--- the number that a header keeps of what it states by a key
-abbrev pub told : StatedHeader → HeaderKey → ℕ
-told m key.Periods = m.periods
-told m key.Destinations = m.destinations
-told m key.Resources = m.resources
-told m key.Rate = unsigned_abs m.rate
-told m k = 0
+-- the number that a header stores for a key
+abbrev pub reported : StatedHeader → HeaderKey → ℕ
+reported m key.Periods = m.periods
+reported m key.Destinations = m.destinations
+reported m key.Resources = m.resources
+reported m key.Rate = unsigned_abs m.rate
+reported m k = 0
 
-pub number_back : (p : Problem) (n : ℕ) (m : StatedHeader) (k : HeaderKey) (value : List ℕ) → SpellsKey p n m k value
-    → number_stated p n k value ≡ Ok (told m k)
-number_back p n m k value s = (keeps p n k value).back (told m k) (by k s)
+pub number_back : (p : Problem) (n : ℕ) (m : StatedHeader) (k : HeaderKey) (value : List ℕ) → EncodesKey p n m k value
+    → number_stated p n k value ≡ Ok (reported m k)
+number_back p n m k value s = (keeps p n k value).back (reported m k) (by k s)
   where
-    by : (k : HeaderKey) → SpellsKey p n m k value → Keeps p n k value (told m k)
+    by : (k : HeaderKey) → EncodesKey p n m k value → Keeps p n k value (reported m k)
     by key.Name s = (s.1, refl)
     by key.Type s = (s, refl)
     by key.Blocks s = (s, refl)
@@ -106,9 +106,9 @@ number_back p n m k value s = (keeps p n k value).back (told m k) (by k s)
     by key.Destinations s = s
     by key.Resources s = s
     by key.General s = s
-    by key.Rate s = subst (SpellsNumber 6 (pos 0) MAX_RATE value) (sym (from_zero m.rate s.1)) s
+    by key.Rate s = subst (EncodesNumber 6 (pos 0) MAX_RATE value) (sym (from_zero m.rate s.1)) s
 
--- a number that is read is below the limit of its key
+-- a number that was read is below the limit of its key
 pub number_low : (p : Problem) (n : ℕ) (k : HeaderKey) (value : List ℕ) → IfOk (number_stated p n k value) (λ m. m < number_limit k)
 number_low p n k value = by (number_stated p n k value) refl
   where
@@ -123,10 +123,10 @@ number_low p n k value = by (number_stated p n k value) refl
     low key.Rate m s = omega (arith, ints, s.2)
 
     by : (r : Result ℕ TextKind) → number_stated p n k value ≡ r → IfOk r (λ m. m < number_limit k)
-    by (Ok m) e = low k m ((keeps p n k value).told m e)
+    by (Ok m) e = low k m ((keeps p n k value).reported m e)
     by (Err kind) e = tt
 
--- and its NAME is one
+-- and a NAME that was read is a NAME
 pub name_read : (p : Problem) (n : ℕ) (k : HeaderKey) (value : List ℕ) → IfOk (number_stated p n k value) (λ _. is_name_for k value ≡ true)
 name_read p n k value = by (number_stated p n k value) refl
   where
@@ -135,10 +135,10 @@ name_read p n k value = by (number_stated p n k value) refl
     named k m s = refl
 
     by : (r : Result ℕ TextKind) → number_stated p n k value ≡ r → IfOk r (λ _. is_name_for k value ≡ true)
-    by (Ok m) e = named k m ((keeps p n k value).told m e)
+    by (Ok m) e = named k m ((keeps p n k value).reported m e)
     by (Err kind) e = tt
 
--- as the code takes it, by the field of the key
+-- how the code reads it, by the field of the key
 pub fine_field : (k : HeaderKey) → IsFineField (key_field k)
 fine_field key.Name = tt
 fine_field key.Type = tt
@@ -181,7 +181,7 @@ number_taken p n key.Resources value =
     whole_kept key.Resources n (number_in 0 (pos 0) (pos ((MAX_RESOURCES + 1) * 10 ^ 6) -ℤ pos 1) value) (λ m. refl)
 number_taken p n key.General value = whole_kept key.General n (number_in 0 (pos 0) (pos (1 * 10 ^ 6) -ℤ pos 1) value) (λ m. refl)
 
--- so what holds of the number that is stated holds of what is made of the millionths of its field
+-- so a property of the stated number is a property of the number from the field's millionths
 pub number_holds : (p : Problem) (n : ℕ) (k : HeaderKey) (value : List ℕ) (field : KeyField) (stated r : Result ℕ TextKind) (m : ℕ)
     (Holds : ℕ → Type 0) → field ≡ key_field k → stated ≡ stated_in p field value → stated ≡ Ok m → r ≡ number_with n k m
     → IfOk (number_stated p n k value) Holds → IfOk r Holds

@@ -1,4 +1,4 @@
--- A line whose fields have no colon has none, and the text of a number is a field without one.
+-- A line whose fields have no colon has none, and the text of a number is a field without a colon.
 use Rattle.std.specs.Prelude.{◌≡◌, ℕ, Bool, true, false, not, List, [], ◌∷◌, ◌++◌, ◌≤◌, ℤ, if◌then◌else◌, ◌⊎◌}
 use Rattle.std.specs.Char.{is_ascii_digit}
 use Rattle.std.specs.List.{list_all, list_any, onto_first}
@@ -12,11 +12,11 @@ use Rattle.minelib_reading.specs.ModelKeys.{is_colon}
 use Rattle.text_lines.specs.TextLines.{fields_of, is_ended}
 use Rattle.text_lines.proofs.PlainText.{IsField, all_parts, all_weaker, is_plain}
 
--- a colon stands in some field
+-- a field has a colon
 abbrev pub have_colon : List (List ℕ) → Bool
 have_colon fields = list_any (list_any is_colon) fields
 
--- no plain byte is one
+-- no plain byte is a colon
 pub plain_no_colon : (c : ℕ) → is_plain c ≡ true → not (is_colon c) ≡ true
 plain_no_colon c h = grind (arith, nat_tests)
 
@@ -61,7 +61,7 @@ sign_plain sign (inl none) = rw none refl
 sign_plain sign (inr (inl plus)) = rw plus refl
 sign_plain sign (inr (inr minus)) = rw minus refl
 
--- behind the sign stand digits, some of them behind a point
+-- digits follow the sign, some of them after a point
 tail_plain : (tail fraction : List ℕ) → ((tail ≡ []) × (fraction ≡ [])) ⊎ (tail ≡ 46 ∷ fraction) → all_digits fraction ≡ true
     → (list_all is_plain tail ≡ true) × (length fraction ≤ length tail)
 tail_plain tail fraction (inl none) digits = (rw (none.0) refl, rw (none.1) (omega arith))
@@ -70,7 +70,7 @@ tail_plain tail fraction (inr some) digits = (rw some (digits_plain fraction dig
 -- a decimal text is a field
 pub number_field : (max : ℕ) (text : List ℕ) (m : ℤ) → StandsFor max text m → IsField text
 number_field max text m s =
-    let p = s.spelled in
+    let p = s.encoded in
     let tail = tail_plain s.tail s.fraction p.point p.fraction_digits in
     rw p.joined (record {
       some = omega (arith, p.some_digit, tail.1, length-append s.sign (s.whole ++ s.tail), length-append s.whole s.tail);

@@ -1,10 +1,10 @@
--- The kind of a line's fault is that of the first thing that is wrong with it.
+-- The kind of a line's fault is the kind of the first requirement that it violates.
 use Rattle.std.specs.Prelude.{Bool, Err, List, Ok, Result, if◌then◌else◌, nat_lt, not, pos, unsigned_abs, ℕ, ℤ, ◌*◌, ◌-ℤ◌, ◌/◌, ◌==◌, ◌^◌, ◌||◌, ◌≢◌}
 use Rattle.std.proofs.Common.{All, [], ap, arith, drop, false, length, refl, true, ◌<◌, ◌∷◌, ◌≡◌}
 use Rattle.std.proofs.lemmas.Bool.{eq-eqb, eqb-false, eqb-true, ne_eqb, not-false, not-true}
 use Rattle.std.proofs.lemmas.Bool.Decides.{nat_tests}
 use Rattle.std.proofs.lemmas.List.{nil_from_length}
-use Rattle.pit_units.proofs.Fails.{Fails, fails_behind, fails_here, fails_then, other_fault}
+use Rattle.pit_units.proofs.Fails.{Fails, fails_after, fails_here, fails_then, other_fault}
 use Rattle.pit_units.specs.Decimal.{decimal_within}
 use Rattle.pit_units.specs.Steps.{◌>>=◌, each_of}
 use Rattle.pit_units.specs.declared.fault.DecFault.{DecFault}
@@ -12,7 +12,7 @@ use Rattle.pit_units.specs.declared.fault.DecFault.TheVariants as dec
 use Rattle.mine_instance.specs.Valid.{ArePredsOf}
 use Rattle.pit_units.proofs.Exactly.{each}
 use Rattle.text_lines.proofs.FieldFacts.{below}
-use Rattle.text_lines.specs.StatedFields.{below_in, field_at, number_in, number_said}
+use Rattle.text_lines.specs.StatedFields.{below_in, field_at, number_in, number_in_field}
 use Rattle.text_lines.specs.declared.text_fault.TextKind.{TextKind}
 use Rattle.text_lines.specs.declared.text_fault.TextKind.TheVariants.{Count, Fields, Key, Missing, Number, Order, Range, TooFine, Twice}
 use Rattle.minelib_reading.proofs.lines.LineFacts.{all_below}
@@ -21,11 +21,11 @@ use Rattle.minelib_reading.specs.ModelDraft.{ModelDraftView, is_next, is_ready}
 use Rattle.minelib_reading.specs.ModelText.{section_stated}
 use Rattle.minelib_reading.specs.PrecText.{all_differ, preds_stated, stands_in}
 use Rattle.minelib_reading.specs.declared.model.key.Section.{Section}
-use Rattle.minelib_reading.specs.spelled.SpelledItems.{NumbersThen}
+use Rattle.minelib_reading.specs.encoded.EncodedItems.{NumbersThen}
 
--- a number has no other fault than a number's
+-- a number has only a number's faults
 module _ (kind : TextKind) (no_number : Number ≢ kind) (no_fine : TooFine ≢ kind) (no_range : Range ≢ kind) where
-  said_never : (d : Result ℤ DecFault) → number_said d ≢ Err kind
+  said_never : (d : Result ℤ DecFault) → number_in_field d ≢ Err kind
   said_never (Ok m) e = absurd cc
   said_never (Err dec.Number) e = no_number (other_fault Number kind e)
   said_never (Err dec.TooFine) e = no_fine (other_fault TooFine kind e)
@@ -56,12 +56,12 @@ module _ (kind : TextKind) (no_number : Number ≢ kind) (no_fine : TooFine ≢ 
       → ((id k : ℕ) (ids : List ℕ) → Fails (next id k ids) kind (Q id k ids))
       → Fails (if nat_lt (length fields) 2 then Err Fields else (below_in n (field_at fields 0) >>= λ id. below_in n (field_at fields 1) >>= λ k.
       each_of (below_in n) (drop 2 fields) >>= λ ids. next id k ids)) kind (NumbersThen n fields Q)
-  numbers_then n fields no_fields behind =
-      fails_behind Fields no_fields (λ e. grind (arith, nat_tests, e)) (λ h. grind (arith, nat_tests, h)) (
+  numbers_then n fields no_fields following =
+      fails_after Fields no_fields (λ e. grind (arith, nat_tests, e)) (λ h. grind (arith, nat_tests, h)) (
       fails_then kind (below n (field_at fields 0)) (below_never n (field_at fields 0)) (λ id.
       fails_then kind (below n (field_at fields 1)) (below_never n (field_at fields 1)) (λ k.
       fails_then kind (each (below n) (drop 2 fields)) (each_never n (drop 2 fields)) (λ ids.
-      behind id k ids))))
+      following id k ids))))
 
 pub order_fails : (n own : ℕ) (fields : List (List ℕ))
     → Fails (preds_stated n own fields) Order (NumbersThen n fields (λ id k ids. id ≢ own))
@@ -82,7 +82,7 @@ pub count_fails : (n own : ℕ) (fields : List (List ℕ))
 unfolding preds_stated
 count_fails n own fields =
     numbers_then Count (λ e. absurd cc) (λ e. absurd cc) (λ e. absurd cc) n fields (λ e. absurd cc) (λ id k ids.
-    fails_behind Order (λ e. absurd cc) (λ e. eqb-true id own (not-false (id == own) e)) (λ is. rw (eq-eqb id own is) refl)
+    fails_after Order (λ e. absurd cc) (λ e. eqb-true id own (not-false (id == own) e)) (λ is. rw (eq-eqb id own is) refl)
     (fails_here _ Count (λ e. eqb-false k (length ids) (not-true (k == length ids) e)) (λ differs. rw (ne_eqb k (length ids) differs) refl)
     (never (stands_in ids own || not (all_differ ids)) ids)))
   where
@@ -94,7 +94,7 @@ pub twice_fails : (n own : ℕ) (fields : List (List ℕ))
     → Fails (preds_stated n own fields) Twice
     (NumbersThen n fields (λ id k ids. (id ≡ own) × ((k ≡ length ids) × ¬ (ArePredsOf own n ids))))
 unfolding preds_stated
-twice_fails n own fields = record { told = λ e. to (steps.told e); back = λ h. steps.back (from h) }
+twice_fails n own fields = record { reported = λ e. to (steps.reported e); back = λ h. steps.back (from h) }
   where
     Tested : Type 0
     Tested = NumbersThen n fields (λ id k ids. (id ≡ own) × ((k ≡ length ids) × ((stands_in ids own || not (all_differ ids)) ≡ true)))
@@ -105,8 +105,8 @@ twice_fails n own fields = record { told = λ e. to (steps.told e); back = λ h.
     steps : Fails (preds_stated n own fields) Twice Tested
     steps =
         numbers_then Twice (λ e. absurd cc) (λ e. absurd cc) (λ e. absurd cc) n fields (λ e. absurd cc) (λ id k ids.
-        fails_behind Order (λ e. absurd cc) (λ e. eqb-true id own (not-false (id == own) e)) (λ is. rw (eq-eqb id own is) refl)
-        (fails_behind Count (λ e. absurd cc) (λ e. eqb-true k (length ids) (not-false (k == length ids) e)) (λ is. rw (eq-eqb k (length ids) is) refl)
+        fails_after Order (λ e. absurd cc) (λ e. eqb-true id own (not-false (id == own) e)) (λ is. rw (eq-eqb id own is) refl)
+        (fails_after Count (λ e. absurd cc) (λ e. eqb-true k (length ids) (not-false (k == length ids) e)) (λ is. rw (eq-eqb k (length ids) is) refl)
         (fails_here (Ok ids) Twice (λ e. e) (λ e. e) (λ e. absurd cc))))
 
     passes : (ids : List ℕ) → ArePredsOf own n ids → (stands_in ids own || not (all_differ ids)) ≡ true → ⊥
@@ -144,7 +144,7 @@ module _ (d : ModelDraftView) (section : Section) (fields : List (List ℕ)) whe
   pub fields_fails : Fails (section_stated d section fields) Fields ((is_next d.section section ≡ true) × (fields ≢ []))
   unfolding section_stated
   fields_fails =
-      fails_behind Key (λ e. absurd cc) (not-false (is_next d.section section)) (λ e. rw e refl)
+      fails_after Key (λ e. absurd cc) (not-false (is_next d.section section)) (λ e. rw e refl)
       (fails_here _ Fields (λ e none. eqb-false (length fields) 0 (not-true (length fields == 0) e) (ap length none))
       (λ some. rw (ne_eqb (length fields) 0 (λ e. some (nil_from_length fields e))) refl) (never (is_ready d d.section)))
     where
@@ -157,7 +157,7 @@ module _ (d : ModelDraftView) (section : Section) (fields : List (List ℕ)) whe
       ((is_next d.section section ≡ true) × ((fields ≡ []) × (is_ready d d.section ≡ false)))
   unfolding section_stated
   missing_fails =
-      fails_behind Key (λ e. absurd cc) (not-false (is_next d.section section)) (λ e. rw e refl)
-      (fails_behind Fields (λ e. absurd cc) (λ e. nil_from_length fields (eqb-true (length fields) 0 (not-false (length fields == 0) e)))
+      fails_after Key (λ e. absurd cc) (not-false (is_next d.section section)) (λ e. rw e refl)
+      (fails_after Fields (λ e. absurd cc) (λ e. nil_from_length fields (eqb-true (length fields) 0 (not-false (length fields == 0) e)))
       (λ none. rw (eq-eqb (length fields) 0 (ap length none)) refl)
       (fails_here _ Missing (not-true (is_ready d d.section)) (λ e. rw e refl) (λ e. absurd cc)))

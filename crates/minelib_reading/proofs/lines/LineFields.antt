@@ -1,8 +1,8 @@
--- The fields that spell something have no colon, and so has their line none.
+-- Fields that encode something have no colon, so their line has none.
 use Rattle.std.specs.Prelude.{List, Ok, codes, not, ℕ, ℤ}
 use Rattle.std.proofs.Common.{[], arith, false, refl, subst, sym, ◌∷◌, ◌≡◌}
 use Rattle.std.specs.List.{AllZip, list_any}
-use Rattle.pit_units.specs.SpelledNumbers.{SpellsBelow}
+use Rattle.pit_units.specs.EncodedNumbers.{EncodesBelow}
 use Rattle.pit_units.specs.StandsFor.{StandsFor}
 use Rattle.plan_parts.specs.declared.limit.Bound.{Bound}
 use Rattle.plan_parts.specs.declared.limit.Bound.TheVariants.{AtLeast, AtMost, Between}
@@ -17,20 +17,20 @@ use Rattle.minelib_reading.proofs.keys.Keyless.{have_colon, keyless, number_fiel
 use Rattle.minelib_reading.proofs.lines.LineFacts.{coef_exact, limit_exact, values_exact}
 use Rattle.minelib_reading.specs.ModelKeys.{is_colon}
 use Rattle.minelib_reading.specs.ModelText.{coef_stated, limit_stated, values_stated}
-use Rattle.minelib_reading.specs.spelled.SpelledItems.{SpellsBound, SpellsCoef, SpellsLimit, SpellsValues}
+use Rattle.minelib_reading.specs.encoded.EncodedItems.{EncodesBound, EncodesCoef, EncodesLimit, EncodesValues}
 
 decimals : (fields : List (List ℕ)) (values : List ℤ) → AllZip (StandsFor 6) fields values → EachField fields
 decimals [] [] h = tt
 decimals (field ∷ fields) (v ∷ values) h = (number_field 6 field v h.0, decimals fields values h.1)
 decimals fields values h = absurd h
 
-pub values_fields : (n destinations block : ℕ) (fields : List (List ℕ)) (values : List ℤ) → SpellsValues n destinations block fields values
+pub values_fields : (n destinations block : ℕ) (fields : List (List ℕ)) (values : List ℤ) → EncodesValues n destinations block fields values
     → EachField fields
 values_fields n destinations block [] values s = absurd (omega (arith, s.as_many))
 values_fields n destinations block (field ∷ fields) values s = (number_field 0 field _ s.id.0, decimals fields values s.each)
 
 pub coef_fields : (p : Problem) (n destinations resources : ℕ) (fields : List (List ℕ)) (c : Coef)
-    → SpellsCoef p n destinations resources fields c → EachField fields
+    → EncodesCoef p n destinations resources fields c → EachField fields
 coef_fields Pcpsp n destinations resources (b ∷ d ∷ r ∷ v ∷ []) c s =
     (number_field 0 b _ s.1.0, (number_field 0 d _ s.2.0, (number_field 0 r _ s.3.0, (number_field 6 v _ s.4, tt))))
 coef_fields Pcpsp n destinations resources fields c s = absurd (omega (arith, s.0))
@@ -41,8 +41,8 @@ coef_fields Cpit n destinations resources fields c s = absurd (omega (arith, s.0
 letter : (word field : List ℕ) → IsField word → field ≡ word → IsField field
 letter word field is same = subst IsField (sym same) is
 
-limit_of : (resources periods : ℕ) (resource period : ℕ) (bound : Bound) (fields : List (List ℕ)) → SpellsBelow resources (field_at fields 0) resource
-    → SpellsBelow periods (field_at fields 1) period → SpellsBound fields bound → EachField fields
+limit_of : (resources periods : ℕ) (resource period : ℕ) (bound : Bound) (fields : List (List ℕ)) → EncodesBelow resources (field_at fields 0) resource
+    → EncodesBelow periods (field_at fields 1) period → EncodesBound fields bound → EachField fields
 limit_of resources periods resource period (AtMost v) (r ∷ t ∷ l ∷ f ∷ []) of_r of_t s =
     (number_field 0 r _ of_r.0, (number_field 0 t _ of_t.0, (letter (codes "L") l (record { some = omega arith; bytes = refl }) s.1, (number_field 6 f _ s.2, tt))))
 limit_of resources periods resource period (AtLeast v) (r ∷ t ∷ l ∷ f ∷ []) of_r of_t s =
@@ -58,7 +58,7 @@ limit_of resources periods resource period (AtMost v) fields of_r of_t s = absur
 limit_of resources periods resource period (AtLeast v) fields of_r of_t s = absurd (omega (arith, s.0))
 limit_of resources periods resource period (Between v w) fields of_r of_t s = absurd (omega (arith, s.0))
 
-pub limit_fields : (resources periods : ℕ) (fields : List (List ℕ)) (l : Limit) → SpellsLimit resources periods fields l → EachField fields
+pub limit_fields : (resources periods : ℕ) (fields : List (List ℕ)) (l : Limit) → EncodesLimit resources periods fields l → EachField fields
 limit_fields resources periods fields l s = limit_of resources periods l.resource l.period l.bound fields s.0 s.1 s.2
 
 -- a line of such fields
@@ -74,14 +74,14 @@ line_keyless line each = keyless line (fields_keyless (fields_of line) each)
 pub values_keyless : (n destinations before : ℕ) (line : List ℕ) (row : List ℤ) → values_stated n destinations before (fields_of line) ≡ Ok row
     → list_any is_colon line ≡ false
 values_keyless n destinations before line row e =
-    line_keyless line (values_fields n destinations before (fields_of line) row ((values_exact n destinations before (fields_of line)).told row e))
+    line_keyless line (values_fields n destinations before (fields_of line) row ((values_exact n destinations before (fields_of line)).reported row e))
 
 pub coef_keyless : (p : Problem) (n destinations resources : ℕ) (line : List ℕ) (c : Coef)
     → coef_stated p n destinations resources (fields_of line) ≡ Ok c → list_any is_colon line ≡ false
 coef_keyless p n destinations resources line c e =
-    line_keyless line (coef_fields p n destinations resources (fields_of line) c ((coef_exact p n destinations resources (fields_of line)).told c e))
+    line_keyless line (coef_fields p n destinations resources (fields_of line) c ((coef_exact p n destinations resources (fields_of line)).reported c e))
 
 pub limit_keyless : (resources periods : ℕ) (line : List ℕ) (l : Limit) → limit_stated resources periods (fields_of line) ≡ Ok l
     → list_any is_colon line ≡ false
 limit_keyless resources periods line l e =
-    line_keyless line (limit_fields resources periods (fields_of line) l ((limit_exact resources periods (fields_of line)).told l e))
+    line_keyless line (limit_fields resources periods (fields_of line) l ((limit_exact resources periods (fields_of line)).reported l e))

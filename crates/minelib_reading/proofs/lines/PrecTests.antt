@@ -1,4 +1,4 @@
--- Lists of identifiers that are tested are predecessors, and predecessors pass the tests.
+-- Tested lists of identifiers are predecessors, and predecessors pass the tests.
 use Rattle.std.specs.Prelude.{◌≡◌, ◌≢◌, ℕ, suc, ◌<◌, ◌==◌, true, false, not, List, [], ◌∷◌, All, AllPairs}
 use Rattle.std.proofs.Common.{refl, sym, arith}
 use Rattle.std.proofs.lemmas.Bool.{and_parts, ne_eqb, not-true, or_parts}
@@ -22,14 +22,14 @@ differ_again (id ∷ ids) h =
 pub preds_pass : (own n : ℕ) (ids : List ℕ) → ArePredsOf own n ids → (stands_in ids own ≡ false) × (all_differ ids ≡ true)
 preds_pass own n ids h = (stands_not own ids h.others, differ_again ids h.distinct)
 
--- a number that does not stand in a list differs from each one there
+-- a number that is not in a list differs from each number in the list
 pub others_differ : (own : ℕ) (ids : List ℕ) → stands_in ids own ≡ false → All (λ id. id ≢ own) ids
 others_differ own [] e = All-nil (λ id. id ≢ own)
 others_differ own (id ∷ ids) e =
     let parts = or_parts (id == own) (stands_in ids own) e in
     All-cons (λ other. other ≢ own) id ids (grind (arith, nat_tests, parts.0)) (others_differ own ids parts.1)
 
--- where no number stands twice, each two differ
+-- if no number appears twice, each two differ
 pub pairs_differ : (ids : List ℕ) → all_differ ids ≡ true → AllPairs (λ id other. id ≢ other) ids
 pairs_differ [] e = λ i j d less high. absurd (omega arith)
 pairs_differ (id ∷ ids) e =

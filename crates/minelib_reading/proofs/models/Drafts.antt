@@ -1,4 +1,4 @@
--- What was read of a model file up to a section.
+-- The content of a model file up to a section.
 use Rattle.std.specs.Prelude.{List, ℕ, ℤ}
 use Rattle.std.proofs.Common.{[]}
 use Rattle.plan_parts.specs.declared.limit.Limit.{Limit}

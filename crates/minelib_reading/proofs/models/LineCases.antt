@@ -1,4 +1,4 @@
--- What a line of a model file is: the line of a key, of a section's key, or of an item; and how the code takes those of keys.
+-- The kinds of a model file's lines: a header key, a section's key, or an item; and how the code reads key lines.
 use Rattle.std.specs.Prelude.{Bool, Err, List, None, Ok, Option, Result, if◌then◌else◌, not, ℕ, ◌==◌}
 use Rattle.std.proofs.Common.{Some, [], ap, arith, false, length, refl, true, ◌∙◌, ◌∷◌, ◌≡◌}
 use Rattle.std.proofs.lemmas.Bool.{ne_eqb}
@@ -20,7 +20,7 @@ use Rattle.minelib_reading.specs.declared.model.key.ModelKey.TheVariants as mode
 use Rattle.minelib_reading.specs.declared.model.key.Section.{Section}
 use Rattle.minelib_reading.specs.declared.model.key.Section.TheVariants.{Coefs, Heading, Limits, Objective}
 use Rattle.minelib_reading.specs.inner.ModelParts.{only_value}
-use Rattle.minelib_reading.specs.spelled.SpelledKeys.{IsKeyLine}
+use Rattle.minelib_reading.specs.encoded.EncodedKeys.{IsKeyLine}
 
 pub each_line : (P : Result ModelDraftView TextKind → Type 0) (d : ModelDraftView) (line : List ℕ) → P (Err Key)
     → ((k : HeaderKey) (fields : List (List ℕ)) → IsKeyLine (key_word k) line fields → has_key d.problem k ≡ true → P (key_stated d k fields))
@@ -32,22 +32,22 @@ pub each_line : (P : Result ModelDraftView TextKind → Type 0) (d : ModelDraftV
 unfolding line_stated
 each_line P d line stray header section values coef limit = by (list_any is_colon line) refl
   where
-    front : List (List ℕ)
-    front = fields_of (before_first is_colon line)
+    prefix : List (List ℕ)
+    prefix = fields_of (before_first is_colon line)
 
     fields : List (List ℕ)
     fields = fields_of (after_first is_colon line)
 
-    cut : (word : List ℕ) → list_any is_colon line ≡ true → front ≡ word ∷ [] → IsKeyLine word line fields
+    cut : (word : List ℕ) → list_any is_colon line ≡ true → prefix ≡ word ∷ [] → IsKeyLine word line fields
     cut word colon alone = key_line word line fields (record { colon = colon; key_is = alone; fields_are = refl })
 
-    keyed : (found : Option ModelKey) → list_any is_colon line ≡ true → key_of d.problem front ≡ found → P (keyed_stated d found fields)
+    keyed : (found : Option ModelKey) → list_any is_colon line ≡ true → key_of d.problem prefix ≡ found → P (keyed_stated d found fields)
     keyed None colon e = stray
     keyed (Some (model_key.Header k)) colon e =
-        let found = key_found d.problem front (model_key.Header k) e in
+        let found = key_found d.problem prefix (model_key.Header k) e in
         header k fields (cut (key_word k) colon (found.alone ∙ ap (λ word. word ∷ []) found.is.0)) found.is.1
     keyed (Some (model_key.Section s)) colon e =
-        let found = key_found d.problem front (model_key.Section s) e in
+        let found = key_found d.problem prefix (model_key.Section s) e in
         section s fields (cut (section_text s) colon (found.alone ∙ ap (λ word. word ∷ []) found.is))
 
     item : (s : Section) → d.section ≡ s → P (item_stated d s (fields_of line))
@@ -57,11 +57,11 @@ each_line P d line stray header section values coef limit = by (list_any is_colo
     item Limits here = limit here
 
     by : (t : Bool) → list_any is_colon line ≡ t
-        → P (if t then keyed_stated d (key_of d.problem front) fields else item_stated d d.section (fields_of line))
-    by true colon = keyed (key_of d.problem front) colon refl
+        → P (if t then keyed_stated d (key_of d.problem prefix) fields else item_stated d d.section (fields_of line))
+    by true colon = keyed (key_of d.problem prefix) colon refl
     by false none = item d.section refl
 
--- the code asks for the one value, and counts no fields
+-- the code reads the only value, and counts no fields
 pub key_taken : (d : ModelDraftView) (k : HeaderKey) (fields : List (List ℕ))
     → key_stated d k fields
     ≡ (if not (is_heading d.section) then Err Key

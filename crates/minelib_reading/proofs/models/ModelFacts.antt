@@ -21,7 +21,7 @@ pub key_of_none : (problem : Problem) (fields : List (List ℕ)) (kind : TextKin
 key_of_none problem (value ∷ []) kind e = absurd (cc)
 key_of_none problem fields kind e = refl
 
--- where a byte is found it stands at the first place, and where none is found none stands
+-- if a byte is found, it is at the first place; if not, there is none
 pub place_found : (p : ℕ → Bool) (xs : List ℕ) (k : ℕ) → position p xs ≡ Some k → (position_or_len p xs ≡ k) × (list_any p xs ≡ true)
 place_found p xs k e = at (nat_lt (position_or_len p xs) (length xs)) refl where
   at : (t : Bool) → nat_lt (position_or_len p xs) (length xs) ≡ t → (position_or_len p xs ≡ k) × (list_any p xs ≡ true)

@@ -1,10 +1,10 @@
--- What a line of a model file that states something spells, and what it makes of what stood before.
+-- What a line of a model file that states something encodes, and how it changes the content so far.
 use Rattle.std.specs.Prelude.{Bool, Err, IsOk, List, Ok, Result, if◌then◌else◌, not, ℕ, ℤ, ◌||◌}
 use Rattle.std.proofs.Common.{[], arith, false, length, refl, subst, sym, true, ◌++◌, ◌∷◌, ◌≡◌}
 use Rattle.std.proofs.lemmas.Bool.{not-false}
 use Rattle.std.proofs.lemmas.List.{nil_from_length}
 use Rattle.pit_units.proofs.Exactly.{Exactly, counted, done, tested, then_}
-use Rattle.plan_parts.specs.PlanKept.{is_turned, stands_before}
+use Rattle.plan_parts.specs.PlanInvariant.{is_turned, stands_before}
 use Rattle.plan_parts.specs.declared.limit.Limit.{Limit}
 use Rattle.mine_instance.specs.Order.{coef_before}
 use Rattle.mine_instance.specs.declared.coefs.coef.Coef.{Coef}
@@ -14,43 +14,43 @@ use Rattle.text_lines.specs.declared.text_fault.TextKind.TheVariants.{Fields, Ke
 use Rattle.minelib_lines.specs.declared.header_key.HeaderKey.{HeaderKey}
 use Rattle.minelib_lines.specs.declared.header_key.HeaderKey.TheVariants as key
 use Rattle.minelib_reading.proofs.keys.HeaderFacts.{name_kept, number_kept}
-use Rattle.minelib_reading.proofs.keys.KeyNumbers.{number_back, number_told, passes, told}
+use Rattle.minelib_reading.proofs.keys.KeyNumbers.{number_back, number_reported, passes, reported}
 use Rattle.minelib_reading.proofs.lines.LineFacts.{coef_exact, limit_exact, values_exact}
 use Rattle.minelib_reading.specs.HeaderNumbers.{count_in, is_given, with_key}
-use Rattle.minelib_reading.specs.ModelDraft.{ModelDraftView, is_behind, is_heading, is_next, is_ready, last_of, name_with}
+use Rattle.minelib_reading.specs.ModelDraft.{ModelDraftView, is_after, is_heading, is_next, is_ready, last_of, name_with}
 use Rattle.minelib_reading.specs.ModelKeys.{number_stated}
 use Rattle.minelib_reading.specs.ModelText.{item_stated, key_stated, section_stated}
 use Rattle.minelib_reading.specs.StatedModel.{header_stated}
 use Rattle.minelib_reading.specs.declared.model.key.Section.{Section}
 use Rattle.minelib_reading.specs.declared.model.key.Section.TheVariants.{Coefs, Limits, Objective}
-use Rattle.minelib_reading.specs.spelled.SpelledItems.{SpellsCoef, SpellsLimit, SpellsValues}
-use Rattle.minelib_reading.specs.spelled.SpelledAdditions.{KeepsOthers, ReadsKey, StatesKey}
-use Rattle.minelib_reading.specs.spelled.SpelledModel.{SpellsKey}
+use Rattle.minelib_reading.specs.encoded.EncodedItems.{EncodesCoef, EncodesLimit, EncodesValues}
+use Rattle.minelib_reading.specs.encoded.EncodedAdditions.{KeepsOthers, ReadsKey, StatesKey}
+use Rattle.minelib_reading.specs.encoded.EncodedModel.{EncodesKey}
 
--- a header key with these fields behind its colon
+-- a header key with these fields after its colon
 pub record SetsKey (d : ModelDraftView) (k : HeaderKey) (fields : List (List ℕ)) (next : ModelDraftView) : Type 0 where
   pub heading : is_heading d.section ≡ true
   pub new : is_given k d.header ≡ false
   pub value : List ℕ
   pub one : fields ≡ value ∷ []
   pub number : ℕ
-  pub says : SpellsKey d.problem d.blocks (header_stated next.name next.header) k value
+  pub says : EncodesKey d.problem d.blocks (header_stated next.name next.header) k value
   pub is : next ≡ record d { header = with_key d.header k number; name = name_with k value d.name }
 
--- a section's key with these fields behind its colon
+-- a section's key with these fields after its colon
 pub record BeginsSection (d : ModelDraftView) (section : Section) (fields : List (List ℕ)) (next : ModelDraftView) : Type 0 where
   pub follows : is_next d.section section ≡ true
   pub none : fields ≡ []
   pub ready : is_ready d d.section ≡ true
   pub is : next ≡ record d { section = section }
 
--- a test that has to hold
+-- a test that must pass
 holds : {A : Type 0} {r : Result A TextKind} {P : A → Type 0} (fault : TextKind) (t : Bool) → Exactly r P
     → Exactly (if not t then Err fault else r) (λ y. (t ≡ true) × P y)
 holds fault t all = tested fault (not-false t) (λ e. rw e refl) all
 
 itself : {A : Type 0} (r : Result A TextKind) → Exactly r (λ y. r ≡ Ok y)
-itself r = record { told = λ y e. e; back = λ y e. e }
+itself r = record { reported = λ y e. e; back = λ y e. e }
 
 module _ (d : ModelDraftView) (k : HeaderKey) (fields : List (List ℕ)) where
   abbrev with_value : ℕ → ModelDraftView
@@ -70,7 +70,7 @@ module _ (d : ModelDraftView) (k : HeaderKey) (fields : List (List ℕ)) where
       then_ (itself (number_stated d.problem d.blocks k (field_at fields 0))) (λ number. done (with_value number)))))
 
 pub key_step : (d next : ModelDraftView) (k : HeaderKey) (fields : List (List ℕ)) → key_stated d k fields ≡ Ok next → SetsKey d k fields next
-key_step d next k fields e = by fields ((key_exact d k fields).told next e)
+key_step d next k fields e = by fields ((key_exact d k fields).reported next e)
   where
     by : (fields : List (List ℕ)) → Sets d k fields next → SetsKey d k fields next
     by (value ∷ []) (heading, (new, (one, (number, stated, is)))) = record {
@@ -79,8 +79,8 @@ key_step d next k fields e = by fields ((key_exact d k fields).told next e)
       value = value;
       one = refl;
       number = number;
-      says = subst (λ (e : ModelDraftView). SpellsKey d.problem d.blocks (header_stated e.name e.header) k value) (sym is)
-          (number_told d.problem d.blocks k value d.name d.header number stated);
+      says = subst (λ (e : ModelDraftView). EncodesKey d.problem d.blocks (header_stated e.name e.header) k value) (sym is)
+          (number_reported d.problem d.blocks k value d.name d.header number stated);
       is = is;
     }
     by [] (heading, (new, (one, h))) = absurd (omega (arith, one))
@@ -94,17 +94,17 @@ others_kept d k value number = record {
   rest = refl;
 }
 
--- the value spells what is then stated by its key, and other keys state what they did
-pub key_spelled : (d next : ModelDraftView) (k : HeaderKey) (fields : List (List ℕ)) → key_stated d k fields ≡ Ok next → StatesKey d k fields next
-key_spelled d next k fields e =
+-- the value encodes what its key then states, and other keys are unchanged
+pub key_encoded : (d next : ModelDraftView) (k : HeaderKey) (fields : List (List ℕ)) → key_stated d k fields ≡ Ok next → StatesKey d k fields next
+key_encoded d next k fields e =
     let s = key_step d next k fields e in
     (s.value, s.one, s.says, subst (KeepsOthers d k) (sym s.is) (others_kept d k s.value s.number))
 
--- and what spells something is read
+-- and a value that encodes something is read
 pub key_read : (k : HeaderKey) → ReadsKey k
-key_read k d h value heading new spells =
-    let number = number_back d.problem d.blocks h k value spells in
-    let read = (key_exact d k (value ∷ [])).back (with_value d k (value ∷ []) (told h k)) (heading, (new, (refl, (told h k, number, refl)))) in
+key_read k d h value heading new encodes =
+    let number = number_back d.problem d.blocks h k value encodes in
+    let read = (key_exact d k (value ∷ [])).back (with_value d k (value ∷ []) (reported h k)) (heading, (new, (refl, (reported h k, number, refl)))) in
     subst IsOk (sym read) refl
 
 pub section_step : (d next : ModelDraftView) (section : Section) (fields : List (List ℕ)) → section_stated d section fields ≡ Ok next
@@ -112,30 +112,30 @@ pub section_step : (d next : ModelDraftView) (section : Section) (fields : List 
 unfolding section_stated
 section_step d next section fields e =
     let s = (holds Key (is_next d.section section) (counted Fields (length fields) 0 (
-    holds Missing (is_ready d d.section) (done (record d { section = section }))))).told next e in
+    holds Missing (is_ready d d.section) (done (record d { section = section }))))).reported next e in
     record { follows = s.0; none = nil_from_length fields s.1.0; ready = s.1.1.0; is = s.1.1.1 }
 
--- a line adds the values of a block, a coefficient or a limit just where its fields spell it, and where it comes behind the last one
+-- a line adds the values of a block, a coefficient or a limit if and only if its fields encode it, and it follows the last one
 module _ (d : ModelDraftView) (fields : List (List ℕ)) where
   values_added : Exactly (item_stated d Objective fields)
-      (λ next. (vs : List ℤ) × SpellsValues d.blocks (count_in d.header key.Destinations) (length d.values) fields vs
+      (λ next. (vs : List ℤ) × EncodesValues d.blocks (count_in d.header key.Destinations) (length d.values) fields vs
       × (next ≡ record d { values = d.values ++ vs ∷ [] }))
   values_added =
       then_ (values_exact d.blocks (count_in d.header key.Destinations) (length d.values) fields) (λ vs. done (record d { values = d.values ++ vs ∷ [] }))
 
   coef_added : Exactly (item_stated d Coefs fields)
-      (λ next. (c : Coef) × SpellsCoef d.problem d.blocks (count_in d.header key.Destinations) (count_in d.header key.Resources) fields c
-      × ((is_behind coef_before (last_of d.coefs) c ≡ true) × (next ≡ record d { coefs = d.coefs ++ c ∷ [] })))
+      (λ next. (c : Coef) × EncodesCoef d.problem d.blocks (count_in d.header key.Destinations) (count_in d.header key.Resources) fields c
+      × ((is_after coef_before (last_of d.coefs) c ≡ true) × (next ≡ record d { coefs = d.coefs ++ c ∷ [] })))
   coef_added =
       then_ (coef_exact d.problem d.blocks (count_in d.header key.Destinations) (count_in d.header key.Resources) fields) (λ c.
-      passes Order (is_behind coef_before (last_of d.coefs) c) (done (record d { coefs = d.coefs ++ c ∷ [] })))
+      passes Order (is_after coef_before (last_of d.coefs) c) (done (record d { coefs = d.coefs ++ c ∷ [] })))
 
   limit_added : Exactly (item_stated d Limits fields)
-      (λ next. (l : Limit) × SpellsLimit (count_in d.header key.Resources) (count_in d.header key.Periods) fields l
-      × (((is_turned l.bound ≡ false) × (is_behind stands_before (last_of d.limits) l ≡ true)) × (next ≡ record d { limits = d.limits ++ l ∷ [] })))
+      (λ next. (l : Limit) × EncodesLimit (count_in d.header key.Resources) (count_in d.header key.Periods) fields l
+      × (((is_turned l.bound ≡ false) × (is_after stands_before (last_of d.limits) l ≡ true)) × (next ≡ record d { limits = d.limits ++ l ∷ [] })))
   limit_added =
       then_ (limit_exact (count_in d.header key.Resources) (count_in d.header key.Periods) fields) (λ l.
-      tested Order (neither (is_turned l.bound) (is_behind stands_before (last_of d.limits) l)) (λ h. rw (h.0, h.1) refl)
+      tested Order (neither (is_turned l.bound) (is_after stands_before (last_of d.limits) l)) (λ h. rw (h.0, h.1) refl)
       (done (record d { limits = d.limits ++ l ∷ [] })))
     where
       neither : (s t : Bool) → (s || not t) ≡ false → (s ≡ false) × (t ≡ true)
@@ -145,37 +145,37 @@ module _ (d : ModelDraftView) (fields : List (List ℕ)) where
 
   pub values_step : (next : ModelDraftView) → item_stated d Objective fields ≡ Ok next
       → (vs : List ℤ) × (next ≡ record d { values = d.values ++ vs ∷ [] })
-      × SpellsValues d.blocks (count_in d.header key.Destinations) (length d.values) fields vs
-  values_step next e = let s = values_added.told next e in (s.0, s.2, s.1)
+      × EncodesValues d.blocks (count_in d.header key.Destinations) (length d.values) fields vs
+  values_step next e = let s = values_added.reported next e in (s.0, s.2, s.1)
 
   pub values_back : (next : ModelDraftView)
       → (vs : List ℤ) × (next ≡ record d { values = d.values ++ vs ∷ [] })
-      × SpellsValues d.blocks (count_in d.header key.Destinations) (length d.values) fields vs
+      × EncodesValues d.blocks (count_in d.header key.Destinations) (length d.values) fields vs
       → item_stated d Objective fields ≡ Ok next
   values_back next h = values_added.back next (h.0, h.2, h.1)
 
   pub coef_step : (next : ModelDraftView) → item_stated d Coefs fields ≡ Ok next
       → (c : Coef) × (next ≡ record d { coefs = d.coefs ++ c ∷ [] })
-      × SpellsCoef d.problem d.blocks (count_in d.header key.Destinations) (count_in d.header key.Resources) fields c
-      × (is_behind coef_before (last_of d.coefs) c ≡ true)
-  coef_step next e = let s = coef_added.told next e in (s.0, s.2.1, s.1, s.2.0)
+      × EncodesCoef d.problem d.blocks (count_in d.header key.Destinations) (count_in d.header key.Resources) fields c
+      × (is_after coef_before (last_of d.coefs) c ≡ true)
+  coef_step next e = let s = coef_added.reported next e in (s.0, s.2.1, s.1, s.2.0)
 
   pub coef_back : (next : ModelDraftView)
       → (c : Coef) × (next ≡ record d { coefs = d.coefs ++ c ∷ [] })
-      × SpellsCoef d.problem d.blocks (count_in d.header key.Destinations) (count_in d.header key.Resources) fields c
-      × (is_behind coef_before (last_of d.coefs) c ≡ true)
+      × EncodesCoef d.problem d.blocks (count_in d.header key.Destinations) (count_in d.header key.Resources) fields c
+      × (is_after coef_before (last_of d.coefs) c ≡ true)
       → item_stated d Coefs fields ≡ Ok next
   coef_back next h = coef_added.back next (h.0, h.2, (h.3, h.1))
 
   pub limit_step : (next : ModelDraftView) → item_stated d Limits fields ≡ Ok next
       → (l : Limit) × (next ≡ record d { limits = d.limits ++ l ∷ [] })
-      × SpellsLimit (count_in d.header key.Resources) (count_in d.header key.Periods) fields l × (is_turned l.bound ≡ false)
-      × (is_behind stands_before (last_of d.limits) l ≡ true)
-  limit_step next e = let s = limit_added.told next e in (s.0, s.2.1, s.1, s.2.0.0, s.2.0.1)
+      × EncodesLimit (count_in d.header key.Resources) (count_in d.header key.Periods) fields l × (is_turned l.bound ≡ false)
+      × (is_after stands_before (last_of d.limits) l ≡ true)
+  limit_step next e = let s = limit_added.reported next e in (s.0, s.2.1, s.1, s.2.0.0, s.2.0.1)
 
   pub limit_back : (next : ModelDraftView)
       → (l : Limit) × (next ≡ record d { limits = d.limits ++ l ∷ [] })
-      × SpellsLimit (count_in d.header key.Resources) (count_in d.header key.Periods) fields l × (is_turned l.bound ≡ false)
-      × (is_behind stands_before (last_of d.limits) l ≡ true)
+      × EncodesLimit (count_in d.header key.Resources) (count_in d.header key.Periods) fields l × (is_turned l.bound ≡ false)
+      × (is_after stands_before (last_of d.limits) l ≡ true)
       → item_stated d Limits fields ≡ Ok next
   limit_back next h = limit_added.back next (h.0, h.2, ((h.3, h.4), h.1))

@@ -1,4 +1,4 @@
--- What lines spell of a model is as an instance and a CPIT have it.
+-- The content that lines encode is valid for an instance and for a CPIT.
 use Rattle.std.specs.Prelude.{List, ℕ, ℤ}
 use Rattle.std.proofs.Common.{[], ap, arith, drop, false, length, refl, subst, suc, true, ◌<◌, ◌∷◌, ◌≡◌, ◌≤◌}
 use Rattle.std.proofs.lemmas.List.{length-drop}
@@ -6,7 +6,7 @@ use Rattle.std.proofs.lemmas.List.Elements.{All-contains}
 use Rattle.std.specs.List.{AllZip}
 use Rattle.pit_units.specs.StandsFor.{StandsFor}
 use Rattle.plan_parts.specs.Name.{is_name}
-use Rattle.plan_parts.specs.PlanKept.{is_turned}
+use Rattle.plan_parts.specs.PlanInvariant.{is_turned}
 use Rattle.plan_parts.specs.declared.ranges.TheConstants.{MAX_DESTINATIONS}
 use Rattle.mine_instance.specs.Valid.{AreCoefs, AreLimits, HasDestinations, IsHorizon}
 use Rattle.mine_instance.specs.declared.coefs.coef.Coef.{Coef}
@@ -19,10 +19,10 @@ use Rattle.minelib_lines.specs.declared.problem.Problem.{Problem}
 use Rattle.minelib_lines.specs.declared.problem.Problem.TheVariants.{Cpit, Pcpsp}
 use Rattle.minelib_reading.proofs.lines.ItemLines.{each_item}
 use Rattle.minelib_reading.specs.StatedModel.{StatedModel}
-use Rattle.minelib_reading.specs.spelled.SpelledItems.{SpellsCoef, SpellsLimit, SpellsValues}
-use Rattle.minelib_reading.specs.spelled.SpelledModel.{AreHeaderLines, AreModelLines, IsHeaderLine, IsSingle, SpellsKey}
+use Rattle.minelib_reading.specs.encoded.EncodedItems.{EncodesCoef, EncodesLimit, EncodesValues}
+use Rattle.minelib_reading.specs.encoded.EncodedModel.{AreHeaderLines, AreModelLines, EncodesKey, IsHeaderLine, IsSingle}
 
--- what a model file states, of n blocks, is as an instance has it
+-- the content of a model file of n blocks is valid for an instance
 pub record IsModel (problem : Problem) (n : ℕ) (m : StatedModel) : Type 0 where
   pub name : is_name m.header.name ≡ true
   pub horizon : IsHorizon m.header.periods m.header.resources m.header.rate
@@ -32,24 +32,24 @@ pub record IsModel (problem : Problem) (n : ℕ) (m : StatedModel) : Type 0 wher
   pub coefs : AreCoefs n m.header.destinations m.header.resources m.coefs
   pub limits : AreLimits m.header.resources m.header.periods m.limits
 
--- the value of a key is spelled
-pub key_spelled : (problem : Problem) (n : ℕ) (lines : List Line) (h : StatedHeader) → AreHeaderLines problem n lines h
-    → (k : HeaderKey) → has_key problem k ≡ true → (value : List ℕ) × SpellsKey problem n h k value
-key_spelled problem n lines h are k has = All-contains Spelled are.keys k
-    (each_item (λ _ line k. IsHeaderLine problem n h line k) (λ _. Spelled) (λ place line k l. (l.value, l.says)) 0 lines are.keys are.spelled)
+-- the value of a key is encoded
+pub key_encoded : (problem : Problem) (n : ℕ) (lines : List Line) (h : StatedHeader) → AreHeaderLines problem n lines h
+    → (k : HeaderKey) → has_key problem k ≡ true → (value : List ℕ) × EncodesKey problem n h k value
+key_encoded problem n lines h are k has = All-contains Encoded are.keys k
+    (each_item (λ _ line k. IsHeaderLine problem n h line k) (λ _. Encoded) (λ place line k l. (l.value, l.says)) 0 lines are.keys are.encoded)
     (are.all k has)
   where
-    Spelled : HeaderKey → Type 0
-    Spelled k = (value : List ℕ) × SpellsKey problem n h k value
+    Encoded : HeaderKey → Type 0
+    Encoded k = (value : List ℕ) × EncodesKey problem n h k value
 
--- a key that the files of a CPIT have those of both problems have
+-- a key of CPIT files is a key of the files of both problems
 pub in_both : (problem : Problem) (k : HeaderKey) → has_key Cpit k ≡ true → has_key problem k ≡ true
 in_both Pcpsp k has = refl
 in_both Cpit k has = has
 
 destinations_low : (problem : Problem) (n : ℕ) (lines : List Line) (h : StatedHeader) → AreHeaderLines problem n lines h
     → IsSingle problem h.destinations → (1 ≤ h.destinations) × (h.destinations ≤ MAX_DESTINATIONS)
-destinations_low Pcpsp n lines h are single = let s = (key_spelled Pcpsp n lines h are key.Destinations refl).1 in (s.1, s.2)
+destinations_low Pcpsp n lines h are single = let s = (key_encoded Pcpsp n lines h are key.Destinations refl).1 in (s.1, s.2)
 destinations_low Cpit n lines h are single = (omega arith, omega arith)
 
 values_width : (fields : List (List ℕ)) (values : List ℤ) → AllZip (StandsFor 6) fields values → length values ≡ length fields
@@ -57,25 +57,25 @@ values_width [] [] h = refl
 values_width (field ∷ fields) (v ∷ values) h = ap suc (values_width fields values h.1)
 values_width fields values h = absurd h
 
-row_width : (n destinations block : ℕ) (fields : List (List ℕ)) (values : List ℤ) → SpellsValues n destinations block fields values
+row_width : (n destinations block : ℕ) (fields : List (List ℕ)) (values : List ℤ) → EncodesValues n destinations block fields values
     → length values ≡ destinations
 row_width n destinations block fields values s =
     let width = values_width (drop 1 fields) values s.each in omega (arith, width, s.as_many, length-drop 1 fields)
 
 coef_low : (problem : Problem) (n destinations resources : ℕ) (fields : List (List ℕ)) (c : Coef) → IsSingle problem destinations
-    → SpellsCoef problem n destinations resources fields c → (c.b < n) × (c.d < destinations) × (c.r < resources)
+    → EncodesCoef problem n destinations resources fields c → (c.b < n) × (c.d < destinations) × (c.r < resources)
 coef_low Pcpsp n destinations resources fields c single s = (s.1.1, s.2.1, s.3.1)
 coef_low Cpit n destinations resources fields c single s = (s.1.1, omega (arith, single, s.2), s.3.1)
 
-pub spelled_model : (problem : Problem) (n : ℕ) (lines : List Line) (m : StatedModel) → AreModelLines problem n lines m
+pub encoded_model : (problem : Problem) (n : ℕ) (lines : List Line) (m : StatedModel) → AreModelLines problem n lines m
     → IsModel problem n m
-spelled_model problem n lines m are =
+encoded_model problem n lines m are =
     let h = m.header in
-    let spelled = key_spelled problem n are.heading h are.spell_header in
-    let named = (spelled key.Name (in_both problem key.Name refl)).1 in
-    let periods = (spelled key.Periods (in_both problem key.Periods refl)).1 in
-    let few = (spelled key.Resources (in_both problem key.Resources refl)).1.1 in
-    let rate = (spelled key.Rate (in_both problem key.Rate refl)).1 in
+    let encoded = key_encoded problem n are.heading h are.encode_header in
+    let named = (encoded key.Name (in_both problem key.Name refl)).1 in
+    let periods = (encoded key.Periods (in_both problem key.Periods refl)).1 in
+    let few = (encoded key.Resources (in_both problem key.Resources refl)).1.1 in
+    let rate = (encoded key.Rate (in_both problem key.Rate refl)).1 in
     record {
       name = subst (λ name. is_name name ≡ true) named.0 named.1;
       horizon = record {
@@ -85,21 +85,21 @@ spelled_model problem n lines m are =
       };
       count = are.all_values;
       destinations = record {
-        from_1_to_8 = destinations_low problem n are.heading h are.spell_header are.destinations;
-        one_each = each_item (λ block line vs. SpellsValues n h.destinations block (fields_of line) vs) (λ _ vs. length vs ≡ h.destinations)
-            (λ block line vs s. row_width n h.destinations block (fields_of line) vs s) 0 are.values m.values are.spell_values;
+        from_1_to_8 = destinations_low problem n are.heading h are.encode_header are.destinations;
+        one_each = each_item (λ block line vs. EncodesValues n h.destinations block (fields_of line) vs) (λ _ vs. length vs ≡ h.destinations)
+            (λ block line vs s. row_width n h.destinations block (fields_of line) vs s) 0 are.values m.values are.encode_values;
       };
       single = are.destinations;
       coefs = record {
-        in_range = each_item (λ _ line c. SpellsCoef problem n h.destinations h.resources (fields_of line) c)
+        in_range = each_item (λ _ line c. EncodesCoef problem n h.destinations h.resources (fields_of line) c)
             (λ _ c. (c.b < n) × (c.d < h.destinations) × (c.r < h.resources))
-            (λ _ line c s. coef_low problem n h.destinations h.resources (fields_of line) c are.destinations s) 0 are.coefs m.coefs are.spell_coefs;
+            (λ _ line c s. coef_low problem n h.destinations h.resources (fields_of line) c are.destinations s) 0 are.coefs m.coefs are.encode_coefs;
         rising = are.rising_coefs;
       };
       limits = record {
-        in_range = each_item (λ _ line l. SpellsLimit h.resources h.periods (fields_of line) l × (is_turned l.bound ≡ false))
+        in_range = each_item (λ _ line l. EncodesLimit h.resources h.periods (fields_of line) l × (is_turned l.bound ≡ false))
             (λ _ l. (l.resource < h.resources) × (l.period < h.periods) × (is_turned l.bound ≡ false))
-            (λ _ line l s. (s.0.0.1, s.0.1.1, s.1)) 0 are.limits m.limits are.spell_limits;
+            (λ _ line l s. (s.0.0.1, s.0.1.1, s.1)) 0 are.limits m.limits are.encode_limits;
         rising = are.rising_limits;
       };
     }

@@ -1,4 +1,4 @@
--- How counted values are seen as lists, and how many coefficients there can be.
+-- How contracts see counted values as lists, and the maximum number of coefficients.
 use Rattle.std.specs.Prelude.{ℕ, ◌+◌, ◌*◌, List, ℤ, map, Option, Some, None}
 use Rattle.std.specs.Global.{Vec}
 use Rattle.mine_instance.specs.declared.coefs.coef.Coef.{Coef}
@@ -7,12 +7,13 @@ use Rattle.mine_instance.specs.declared.coefs.coef.Coef.{Coef}
 abbrev pub values_in_rows : List (Vec ℤ) → List (List ℤ)
 values_in_rows rows = map (λ row. row.items) rows
 
--- how many coefficients there can be up to one: places rise with the order, and there are 256 destinations and resources at most
+-- the largest number of coefficients up to one: places rise with the order, and there are at most 256 destinations and 256
+-- resources
 abbrev pub most_up_to : Option Coef → ℕ
 most_up_to None = 0
 most_up_to (Some c) = (c.b * 256 + c.d) * 256 + c.r + 1
 
--- the numbers of the destination and the resource of the last one
+-- the destination's and the resource's number of the last coefficient
 abbrev pub last_d : Option Coef → ℕ
 last_d None = 0
 last_d (Some c) = c.d

@@ -1,4 +1,4 @@
--- Lines of blocks and of predecessors as the code takes them: field by field, and counted later.
+-- Lines of blocks and of predecessors as the code reads them: field by field, and counted later.
 use Rattle.std.specs.Prelude.{ℕ, ◌*◌, ◌/◌, ◌==◌, ◌||◌, not, List, [], ◌∷◌, ◌++◌, length, Result, Ok, Err, if◌then◌else◌}
 use Rattle.pit_units.specs.Steps.{◌>>=◌}
 use Rattle.plan_parts.specs.Block.{block_with}
@@ -41,7 +41,7 @@ preds_steps n own fields = do
 unfoldable pub uncounted_preds : ℕ → ℕ → List (List ℕ) → Result (List ℕ) TextKind
 uncounted_preds n own fields = preds_steps n own fields
 
--- what the lines so far state, of so many blocks
+-- what the lines so far state for `blocks` blocks
 pub record PrecDraftView : Type 0 where
   pub blocks : ℕ
   pub lists : List (List ℕ)

@@ -6,11 +6,11 @@ use Rattle.minelib_reading.specs.PrecText.{stands_in}
 abbrev pub AreClear : List Bool → Type 0
 AreClear marks = (place : ℕ) → slice_index_or marks place false ≡ false
 
--- what is marked are numbers of the list
+-- each marked number is in the list
 abbrev pub AreMarked : List ℕ → List Bool → Type 0
 AreMarked ids marks = (place : ℕ) → slice_index_or marks place false ≡ true → IsTrue (stands_in ids place)
 
--- the numbers rise, the first of them above this one
+-- the numbers rise, and the first is above `own`
 abbrev pub rise_above : ℕ → List ℕ → Bool
 rise_above own [] = true
 rise_above own (id ∷ ids) = nat_lt own id && rise_above id ids

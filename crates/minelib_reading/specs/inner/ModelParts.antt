@@ -1,4 +1,4 @@
--- How the parts of a model file's lines are taken.
+-- How the code reads the parts of a model file's lines.
 use Rattle.std.specs.Prelude.{◌≡◌, ℕ, ◌/◌, ◌^◌, ◌==◌, ◌≤◌, Bool, true, List, [], ◌∷◌, pos, unsigned_abs, Result, Ok, Err, if◌then◌else◌}
 use Rattle.std.specs.Borrow.{Bor}
 use Rattle.std.specs.Str.{bytes_eq}
@@ -14,28 +14,28 @@ use Rattle.text_lines.specs.StatedFields.{number_in}
 use Rattle.text_lines.specs.declared.text_fault.TextKind.{TextKind}
 use Rattle.text_lines.specs.declared.text_fault.TextKind.TheVariants.{Fields, Name, Count}
 
--- the one value of a header key
+-- the only value of a header key
 abbrev pub only_value : List (List ℕ) → Result (List ℕ) TextKind
 only_value [] = Err Fields
 only_value (value ∷ []) = Ok value
 only_value (value ∷ other ∷ more) = Err Fields
 
--- the millionths that a number states, none of them below zero
+-- the millionths that a number states, which are not negative
 abbrev pub millionths_in : ℕ → ℕ → ℕ → List ℕ → Result ℕ TextKind
 millionths_in decimals low high text = number_in decimals (pos low) (pos high) text >>= λ m. Ok (unsigned_abs m)
 
--- those that a key's field states, 0 of a word
+-- the millionths that a key's field states, or 0 for a word
 abbrev pub stated_in : Problem → KeyField → List ℕ → Result ℕ TextKind
 stated_in problem field.Name text = if is_name text then Ok 0 else Err Name
 stated_in problem field.Type text = if bytes_eq text (type_text problem) then Ok 0 else Err Name
 stated_in problem (field.Number decimals low high) text = millionths_in decimals low high text
 
--- it has no more than six decimals
+-- it has at most six decimals
 abbrev pub IsFineField : KeyField → Type 0
 IsFineField (field.Number decimals low high) = decimals ≤ 6
 IsFineField f = Unit {0}
 
--- the number of a key whose value states so many millionths, of n blocks
+-- the number of a key whose value states `m` millionths, in a file of n blocks
 abbrev pub number_with : ℕ → HeaderKey → ℕ → Result ℕ TextKind
 number_with n key.Blocks m = if m / 10 ^ 6 == n then Ok 0 else Err Count
 number_with n key.Rate m = Ok m
@@ -46,17 +46,17 @@ abbrev pub StatesValue : Result (Bor (List ℕ)) TextKind → Result (List ℕ) 
 StatesValue (Ok value) stated = stated ≡ Ok value.now
 StatesValue (Err kind) stated = stated ≡ Err kind
 
--- what the first field states, and the fields behind it
+-- what the first field states, and the fields after it
 abbrev pub TakesFirst : {A : Type 0} → Result A TextKind → List (List ℕ) → Result (A × List (List ℕ)) TextKind → Type 0
-TakesFirst (Ok x) behind stated = stated ≡ Ok (x, behind)
-TakesFirst (Err kind) behind stated = stated ≡ Err kind
+TakesFirst (Ok x) following stated = stated ≡ Ok (x, following)
+TakesFirst (Err kind) following stated = stated ≡ Err kind
 
--- the value is a NAME, where the key asks for one
+-- the value is a NAME, if the key requires one
 abbrev pub is_name_for : HeaderKey → List ℕ → Bool
 is_name_for key.Name value = is_name value
 is_name_for k value = true
 
--- no number of a key reaches this: all but the rate fit a byte
+-- a bound above every number of a key: all numbers except the rate fit a byte
 abbrev pub number_limit : HeaderKey → ℕ
 number_limit key.Rate = 2 ^ 32
 number_limit k = 256

@@ -1,4 +1,4 @@
--- Values, coefficients and limits as the code reads them, field by field, and counted later.
+-- Values, coefficients and limits as the code reads them: field by field, and counted later.
 use Rattle.std.specs.Prelude.{ℕ, ◌==◌, not, List, [], ◌∷◌, length, ℤ, Result, Ok, Err, if◌then◌else◌, codes, slice_index_or}
 use Rattle.std.specs.Str.{bytes_eq}
 use Rattle.pit_units.specs.Steps.{◌>>=◌}
@@ -13,17 +13,17 @@ use Rattle.text_lines.specs.declared.text_fault.TextKind.TheVariants.{Fields, Na
 use Rattle.minelib_lines.specs.declared.problem.Problem.{Problem}
 use Rattle.minelib_lines.specs.declared.problem.Problem.TheVariants.{Pcpsp, Cpit}
 
--- the values of a block, behind so many others
+-- the values of a block, after `before` others
 abbrev pub uncounted_values : ℕ → ℕ → List (List ℕ) → Result (List ℤ) TextKind
 uncounted_values n before fields =
     first_by (below_in n) fields >>= λ b. all_by decimal_in [] b.1 >>= λ values. if not (b.0 == before) then Err Order else Ok values
 
--- the destination of a coefficient, and the fields behind it; that of a CPIT stands for the only one
+-- the destination of a coefficient, and the fields after it; a CPIT has no such field, since it has one destination
 abbrev pub destination_in : Problem → ℕ → List (List ℕ) → Result (ℕ × List (List ℕ)) TextKind
 destination_in Pcpsp destinations fields = first_by (below_in destinations) fields
 destination_in Cpit destinations fields = Ok (0, fields)
 
--- a coefficient, and how many fields it has
+-- a coefficient, and the number of its fields
 abbrev pub coef_steps : Problem → ℕ → ℕ → ℕ → List (List ℕ) → Result Coef TextKind
 coef_steps problem n destinations resources fields =
     first_by (below_in n) fields >>= λ b. destination_in problem destinations b.1 >>= λ d. first_by (below_in resources) d.1
@@ -37,7 +37,7 @@ abbrev pub coef_width : Problem → ℕ
 coef_width Pcpsp = 4
 coef_width Cpit = 3
 
--- an interval has a field more
+-- an interval has another field
 abbrev pub limit_width : List (List ℕ) → ℕ
 limit_width fields = if bytes_eq (slice_index_or fields 2 []) (codes "I") then 5 else 4
 

@@ -1,8 +1,8 @@
-//! A model file while its lines are read.
+//! A model file whose lines are being read.
 
 ghost use Rattle.std.specs.Prelude.{◌≡◌, ◌≤◌, Err, [], true, false, map, unwrap_or, length, IfOk};
 ghost use Rattle.std.specs.List.{list_any};
-ghost use Rattle.mine_instance.specs.cpit.CpitKept.{IsCpit};
+ghost use Rattle.mine_instance.specs.cpit.CpitInvariant.{IsCpit};
 ghost use Rattle.minelib_reading.specs.Denotes.{cpit_read, instance_read};
 ghost use Rattle.minelib_reading.specs.HeaderNumbers.{count_in};
 ghost use Rattle.minelib_reading.specs.ModelDraft.{blank_model, is_ready, is_whole, name_with};
@@ -19,7 +19,7 @@ ghost use Rattle.plan_parts.specs.declared.ranges.TheConstants.{MAX_BLOCKS};
 
 use crate::kept::KeptItems;
 use crate::model::header::{blank_header, number_of_key};
-use crate::model::items::{coef_of_line, is_limit_behind, limit_of_line, values_of_line};
+use crate::model::items::{coef_of_line, is_limit_after, limit_of_line, values_of_line};
 use crate::model::key::{Header, ModelKey, Section};
 use crate::model::key_lines::{cut_at_colon, is_heading, is_limits, is_next, key_of, only_value};
 use crate::taking::TakeItems;
@@ -40,7 +40,7 @@ use text_lines::line_by_line::Admit;
 use text_lines::text_fault::{LineFault, TextKind};
 use text_lines::text_fields::count_fields;
 
-/// What the lines of a model file so far state, of so many blocks.
+/// The content of a model file's lines so far, for `blocks` blocks.
 #[derive(Drop)]
 pub struct ModelDraft<T: TakeItems> {
     alloc: Global,
@@ -49,10 +49,10 @@ pub struct ModelDraft<T: TakeItems> {
     name: Option<Name>,
     header: Header,
     section: Section,
-    // its values and coefficients
+    // The values and coefficients.
     items: T,
     limits: Vec<Limit>,
-    // the values of the last line of the objective
+    // The values of the last line of the objective.
     row: Vec<Dec>,
 }
 
@@ -92,7 +92,7 @@ impl<T: TakeItems> Admit for ModelDraft<T> {
 }
 
 impl<T: TakeItems + Drop> ModelDraft<T> {
-    /// Before the first line. `none` takes the values and coefficients, and has none yet.
+    /// Makes a draft before the first line. `none` receives the values and coefficients, and must have none yet.
     pub fn new(alloc: Global, problem: Problem, blocks: usize, none: T) -> ModelDraft<T>
         requires few { blocks ≤ MAX_BLOCKS }
         requires no_values { T.values none ≡ [] }
@@ -112,11 +112,11 @@ impl<T: TakeItems + Drop> ModelDraft<T> {
         }
     }
 
-    /// The draft, once all lines are read and `end` is the number of the line after the last.
+    /// Returns the draft after all lines; `end` is the number of the line after the last.
     ///
     /// # Errors
     ///
-    /// `Missing`, at the line `end`, where a header key, a line of values or a section is lacking.
+    /// `Missing`, at the line `end`: a header key, a line of values or a section is missing.
     pub fn finish(self, end: u64) -> Result<ModelDraft<T>, OrMemory<LineFault>>
         ensures { Gives (λ x. x) result (finish_model end self) }
     {
@@ -132,14 +132,14 @@ impl<T: TakeItems + Drop> ModelDraft<T> {
 }
 
 impl<T: TakeItems> ModelDraft<T> {
-    /// The number of coefficients.
+    /// Returns the number of coefficients.
     pub fn coefs_len(&self) -> usize
         ensures { result ≡ length self.now.coefs }
     {
         self.items.coefs_len()
     }
 
-    /// The number of limits.
+    /// Returns the number of limits.
     pub fn limits_len(&self) -> usize
         ensures { result ≡ length self.now.limits }
     {
@@ -180,7 +180,7 @@ impl<T: TakeItems> ModelDraft<T> {
         let resources = self.resources();
         match coef_of_line(self.problem, self.blocks, destinations, resources, line) {
             Ok(coef) => {
-                if !self.items.is_behind(&coef) {
+                if !self.items.is_after(&coef) {
                     return Err(OrMemory::Fault(TextKind::Order));
                 }
                 self.items.take_coef(coef)?;
@@ -199,7 +199,7 @@ impl<T: TakeItems> ModelDraft<T> {
         let periods = self.periods();
         match limit_of_line(resources, periods, line) {
             Ok(limit) => {
-                if limit.bound.is_turned() || !is_limit_behind(self.limits.as_slice(), &limit) {
+                if limit.bound.is_turned() || !is_limit_after(self.limits.as_slice(), &limit) {
                     return Err(OrMemory::Fault(TextKind::Order));
                 }
                 self.limits.push(limit)?;
@@ -209,7 +209,7 @@ impl<T: TakeItems> ModelDraft<T> {
         }
     }
 
-    // A line that states no item of its section: that of a key, or a faulty one of this kind.
+    // Reads a line that states no item of its section: the line of a key, or an invalid line with this kind.
     #[inline(never)]
     #[tactic(auto, unfolding(crate::specs::ModelText::line_stated))]
     fn admit_key_or(&mut self, line: &[u8], kind: TextKind) -> Result<(), OrMemory<TextKind>>
@@ -289,7 +289,7 @@ impl<T: TakeItems> ModelDraft<T> {
         self.header.count(HeaderKey::Resources) as u8
     }
 
-    // Whether all that has to stand before the next section does.
+    // Returns whether everything required before the next section is there.
     fn is_ready(&self) -> bool
         ensures { result ≡ is_ready self.now self.now.section }
     {
@@ -303,7 +303,7 @@ impl<T: TakeItems> ModelDraft<T> {
 }
 
 impl ModelDraft<KeptItems> {
-    /// The instance of this file, and of blocks and predecessors.
+    /// Makes the instance of this file with these blocks and predecessors. The draft must have a NAME.
     pub fn into_instance(self, blocks: Blocks, preds: Preds) -> Instance
         requires { is_name self.name ≡ true }
         ensures { result ≡ instance_read blocks preds self }
@@ -326,7 +326,7 @@ impl ModelDraft<KeptItems> {
         }
     }
 
-    /// The CPIT of this file.
+    /// Makes the CPIT of this file. The draft must have a NAME, and the lengths, ranges and orders of a CPIT.
     pub fn into_cpit(self) -> Cpit
         requires name { is_name self.name ≡ true }
         requires cpit { IsCpit (cpit_read self) }
@@ -348,7 +348,7 @@ impl ModelDraft<KeptItems> {
     }
 }
 
-// The NAME after a header key with this value.
+// Returns the NAME after a header key with this value.
 fn name_with(
     alloc: Global,
     key: HeaderKey,

@@ -1,4 +1,4 @@
-//! The header of a model file that is read.
+//! The header of a model file that is being read.
 
 ghost use Rattle.std.specs.Prelude.{◌≡◌, ◌<◌, ◌≤◌, true, IfOk};
 ghost use Rattle.minelib_reading.specs.ModelDraft.{blank_header};
@@ -13,7 +13,7 @@ use pit_units::{MILLIONTHS, parse_within};
 use plan_parts::name::is_name;
 use text_lines::text_fault::TextKind;
 
-/// The header before its first key.
+/// Returns the header before its first key.
 pub fn blank_header(problem: Problem) -> Header
     ensures { result ≡ blank_header problem }
 {
@@ -26,12 +26,12 @@ pub fn blank_header(problem: Problem) -> Header
     }
 }
 
-/// The number that the value of a header key states, in a file of so many blocks: 0 for a key whose value only has to
-/// be right, such as NBLOCKS.
+/// Returns the number that the value of a header key states, in a file of `blocks` blocks. It is 0 for a key whose value must only
+/// be correct, such as NBLOCKS.
 ///
 /// # Errors
 ///
-/// What is wrong with the value, or `Count` where NBLOCKS is another number.
+/// What is wrong with the value, or `Count` if NBLOCKS is another number.
 #[tactic(auto, using(crate::proofs::keys::KeyNumbers::number_taken, crate::proofs::keys::KeyNumbers::fine_field))]
 pub fn number_of_key(
     problem: Problem,
@@ -47,7 +47,7 @@ pub fn number_of_key(
     number_with(blocks, key, millionths)
 }
 
-// The number of a key whose value states so many millionths.
+// Returns the number of a key whose value states these millionths.
 fn number_with(blocks: usize, key: HeaderKey, millionths: u64) -> Result<u64, TextKind>
     ensures { result ≡ number_with blocks key millionths }
 {
@@ -60,7 +60,7 @@ fn number_with(blocks: usize, key: HeaderKey, millionths: u64) -> Result<u64, Te
     }
 }
 
-// The millionths that a field states, 0 of a word.
+// Returns the millionths that a field states, or 0 for a word.
 fn stated_in(problem: Problem, field: KeyField, text: &[u8]) -> Result<u64, TextKind>
     requires { IsFineField field }
     ensures { result ≡ stated_in problem field text.now }
@@ -77,7 +77,7 @@ fn stated_in(problem: Problem, field: KeyField, text: &[u8]) -> Result<u64, Text
     }
 }
 
-// The millionths that a field states with at most so many decimals, from `low` to `high`.
+// Returns the millionths that a field states with at most `decimals` decimals, from `low` to `high`.
 fn millionths_in(field: &[u8], decimals: u8, low: u64, high: u64) -> Result<u64, TextKind>
     requires { decimals ≤ 6 }
     ensures { result ≡ millionths_in decimals low high field.now }

@@ -1,11 +1,11 @@
 //! The lines of a model file's sections.
 
 ghost use Rattle.std.specs.Prelude.{◌≡◌, ◌≤◌, ◌<◌, ◌+◌, ◌∷◌, [], length, drop, slice_index_or, IfOk, OnOk};
-ghost use Rattle.plan_parts.specs.PlanKept.{stands_before};
+ghost use Rattle.plan_parts.specs.PlanInvariant.{stands_before};
 ghost use Rattle.mine_instance.specs.Order.{coef_before};
 ghost use Rattle.text_lines.specs.FieldValues.{Takes, all_by, first_by};
 ghost use Rattle.text_lines.specs.StatedFields.{decimal_in};
-ghost use Rattle.minelib_reading.specs.ModelDraft.{is_behind, last_of};
+ghost use Rattle.minelib_reading.specs.ModelDraft.{is_after, last_of};
 ghost use Rattle.minelib_reading.specs.ModelText.{coef_stated, limit_stated, values_stated};
 ghost use Rattle.minelib_reading.specs.inner.ModelParts.{TakesFirst};
 ghost use Rattle.text_lines.specs.Reading.{Leaves};
@@ -22,15 +22,16 @@ use plan_parts::limit::{Bound, Limit};
 use text_lines::field_values::decimal_in;
 use text_lines::text_fault::TextKind;
 use text_lines::text_fields::{
-    count_fields, fault_kind_of_line, first_millionths, first_whole, has_field, next_field,
+    count_fields, fault_kind_of_line, first_integer, first_millionths, has_field, next_field,
 };
 
-/// Reads the values of a block, one for each destination, into `row`, from a line behind so many others.
+/// Reads the values of a block, one for each destination, into `row`, from a line after `before` others. After an error `row` is
+/// unspecified.
 ///
 /// # Errors
 ///
-/// `Fields`, what is wrong with the first faulty field, or `Order` where the line is of another block; `OutOfMemory`
-/// where `row` could not grow. What `row` then holds is of no use.
+/// - `Fault`: with `Fields`, the kind of the first invalid field, or `Order` if the line is of another block.
+/// - `OutOfMemory`: `row` could not grow.
 pub fn values_of_line(
     blocks: usize,
     destinations: u8,
@@ -53,7 +54,7 @@ pub fn values_of_line(
     }
 }
 
-// Reads the values of a line of as many fields as it has to have. The fault of another line may be of another kind.
+// Reads the values of a line that has the required number of fields. For other lines, the kind of the fault may differ.
 #[tactic(auto, using(crate::proofs::counts::LaterLines::values_counted))]
 fn uncounted_values(
     blocks: usize,
@@ -67,7 +68,7 @@ fn uncounted_values(
     ensures width { OnOk result (length row.new.items ≡ destinations) }
     ensures room { OnOk result (before < blocks) }
 {
-    let (b, values) = first_whole(line, blocks as u64)?;
+    let (b, values) = first_integer(line, blocks as u64)?;
     read_decimals(values, usize::from(destinations), row)?;
     if b != before as u64 {
         return Err(OrMemory::Fault(TextKind::Order));
@@ -75,7 +76,7 @@ fn uncounted_values(
     Ok(())
 }
 
-// All decimals of a line of so many fields.
+// Reads all decimals of a line with `count` fields.
 fn read_decimals(line: &[u8], count: usize, row: &mut Vec<Dec>) -> Result<(), OrMemory<TextKind>>
     ensures value { AdmitsCounted (length (fields_of line.now) ≡ count) row.new.items result
         (all_by decimal_in [] (fields_of line.now)) }
@@ -84,9 +85,9 @@ fn read_decimals(line: &[u8], count: usize, row: &mut Vec<Dec>) -> Result<(), Or
     row.clear();
     let mut rest = line;
     while row.len() < count {
-        let (value, behind) = first_millionths(rest)?;
+        let (value, following) = first_millionths(rest)?;
         row.push(Dec::new(value).unwrap())?;
-        rest = behind;
+        rest = following;
     }
     if has_field(rest) {
         return Err(OrMemory::Fault(TextKind::Fields));
@@ -94,11 +95,11 @@ fn read_decimals(line: &[u8], count: usize, row: &mut Vec<Dec>) -> Result<(), Or
     Ok(())
 }
 
-/// The coefficient of a line, of so many blocks, destinations and resources.
+/// Returns the coefficient of a line, for these numbers of blocks, destinations and resources.
 ///
 /// # Errors
 ///
-/// `Fields`, or what is wrong with the first faulty field.
+/// `Fields`, or the kind of the first invalid field.
 #[inline(always)]
 pub fn coef_of_line(
     problem: Problem,
@@ -119,7 +120,7 @@ pub fn coef_of_line(
     }
 }
 
-// The coefficient of a line of as many fields as it has to have. The fault of another line may be of another kind.
+// Returns the coefficient of a line that has the required number of fields. For other lines, the kind of the fault may differ.
 #[inline(always)]
 #[tactic(auto, using(crate::proofs::counts::LaterLines::coef_read))]
 fn uncounted_coef(
@@ -136,11 +137,11 @@ fn uncounted_coef(
     ensures destination { IfOk result (λ coef. coef.d < 256) }
     ensures resource { IfOk result (λ coef. coef.r < 256) }
 {
-    let (b, behind_b) = first_whole(line, blocks as u64)?;
-    let (d, behind_d) = destination_in(problem, destinations, behind_b)?;
-    let (r, behind_r) = first_whole(behind_d, u64::from(resources))?;
-    let (v, behind_v) = first_millionths(behind_r)?;
-    if has_field(behind_v) {
+    let (b, after_b) = first_integer(line, blocks as u64)?;
+    let (d, after_d) = destination_in(problem, destinations, after_b)?;
+    let (r, after_r) = first_integer(after_d, u64::from(resources))?;
+    let (v, after_v) = first_millionths(after_r)?;
+    if has_field(after_v) {
         return Err(TextKind::Fields);
     }
     Ok(Coef {
@@ -160,21 +161,21 @@ fn coef_width(problem: Problem) -> usize
     }
 }
 
-// The destination of a coefficient, and the fields behind it: that of a CPIT has none, and stands for the only one.
+// Returns the destination of a coefficient, and the fields after it. A CPIT has no such field, since it has one destination.
 #[inline(always)]
 fn destination_in(problem: Problem, destinations: u8, line: &[u8]) -> Result<(u64, &[u8]), TextKind>
     ensures value { Takes result (destination_in problem destinations (fields_of line.now)) }
     ensures below { IfOk result (λ x. x.0 < 256) }
 {
     match problem {
-        Problem::Pcpsp => first_whole(line, u64::from(destinations)),
+        Problem::Pcpsp => first_integer(line, u64::from(destinations)),
         Problem::Cpit => Ok((0, line)),
     }
 }
 
-/// Whether the coefficient comes behind the last of others.
-pub fn is_coef_behind(coefs: &[Coef], coef: &Coef) -> bool
-    ensures { result ≡ is_behind coef_before (last_of coefs.now) coef.now }
+/// Returns whether the coefficient follows the last of others.
+pub fn is_coef_after(coefs: &[Coef], coef: &Coef) -> bool
+    ensures { result ≡ is_after coef_before (last_of coefs.now) coef.now }
 {
     match coefs.last() {
         Some(last) => last.comes_before(coef),
@@ -182,11 +183,11 @@ pub fn is_coef_behind(coefs: &[Coef], coef: &Coef) -> bool
     }
 }
 
-/// The limit of a line, of so many resources and periods.
+/// Returns the limit of a line, for these numbers of resources and periods.
 ///
 /// # Errors
 ///
-/// `Fields`, or what is wrong with the first faulty field.
+/// `Fields`, or the kind of the first invalid field.
 #[tactic(auto, using(crate::proofs::counts::LimitSteps::limit_same))]
 pub fn limit_of_line(resources: u8, periods: u8, line: &[u8]) -> Result<Limit, TextKind>
     ensures { result ≡ limit_stated resources periods (fields_of line.now) }
@@ -194,9 +195,9 @@ pub fn limit_of_line(resources: u8, periods: u8, line: &[u8]) -> Result<Limit, T
     if count_fields(line) != limit_width(line) {
         return Err(TextKind::Fields);
     }
-    let (resource, behind_resource) = first_whole(line, u64::from(resources))?;
-    let (period, behind_period) = first_whole(behind_resource, u64::from(periods))?;
-    let bound = bound_in(behind_period)?;
+    let (resource, after_resource) = first_integer(line, u64::from(resources))?;
+    let (period, after_period) = first_integer(after_resource, u64::from(periods))?;
+    let bound = bound_in(after_period)?;
     Ok(Limit {
         resource: resource as u8,
         period: period as u8,
@@ -204,7 +205,7 @@ pub fn limit_of_line(resources: u8, periods: u8, line: &[u8]) -> Result<Limit, T
     })
 }
 
-// How many fields a limit has: an interval has one more.
+// Returns the number of fields that a limit must have: 5 for an interval, else 4.
 fn limit_width(line: &[u8]) -> usize
     ensures { result ≡ limit_width (fields_of line.now) }
 {
@@ -218,7 +219,7 @@ fn limit_width(line: &[u8]) -> usize
 fn third_field(line: &[u8]) -> &[u8]
     ensures { result.now ≡ slice_index_or (fields_of line.now) 2 [] }
 {
-    first_field(behind_first(behind_first(line)))
+    first_field(after_first_field(after_first_field(line)))
 }
 
 fn first_field(line: &[u8]) -> &[u8]
@@ -230,12 +231,12 @@ fn first_field(line: &[u8]) -> &[u8]
     }
 }
 
-// The bytes behind the first field, if there is one.
-fn behind_first(line: &[u8]) -> &[u8]
+// Returns the bytes after the first field, if there is one.
+fn after_first_field(line: &[u8]) -> &[u8]
     ensures { fields_of result.now ≡ drop 1 (fields_of line.now) }
 {
     match next_field(line) {
-        Some((_, behind)) => behind,
+        Some((_, following)) => following,
         None => line,
     }
 }
@@ -277,13 +278,13 @@ fn interval_in(line: &[u8]) -> Result<Bound, TextKind>
     ensures { result ≡ interval_in (fields_of line.now) }
 {
     let low = first_decimal(line)?;
-    let high = first_decimal(behind_first(line))?;
+    let high = first_decimal(after_first_field(line))?;
     Ok(Bound::Between(low, high))
 }
 
-/// Whether the limit comes behind the last of others.
-pub fn is_limit_behind(limits: &[Limit], limit: &Limit) -> bool
-    ensures { result ≡ is_behind stands_before (last_of limits.now) limit.now }
+/// Returns whether the limit follows the last of others.
+pub fn is_limit_after(limits: &[Limit], limit: &Limit) -> bool
+    ensures { result ≡ is_after stands_before (last_of limits.now) limit.now }
 {
     match limits.last() {
         Some(last) => last.stands_before(limit),

@@ -1,11 +1,11 @@
-//! The keys of a model file, and what its header keys state.
+//! The keys of a model file, and the numbers of its header keys.
 
 ghost use Rattle.std.specs.Prelude.{◌≡◌};
 ghost use Rattle.minelib_reading.specs.HeaderNumbers.{count_in, is_complete, is_given, no_key, number_of, with_key};
 
 use minelib_lines::header_key::{HeaderKey, KEYS};
 
-/// The part of a model file that a line stands in.
+/// The part of a model file to which a line belongs.
 #[derive(Clone, Copy, Debug, PartialEq, Eq)]
 pub enum Section {
     /// The header keys, before the first section.
@@ -25,16 +25,16 @@ pub enum ModelKey {
     Section(Section),
 }
 
-/// The numbers that the header keys have stated so far (`numbers`), by the place of the key. A key whose value only has to be right, such as
-/// NBLOCKS, has 0.
+/// The numbers of the header keys that were read (`numbers`), by the place of the key. A key whose value must only be correct, such
+/// as NBLOCKS, has 0.
 #[derive(Clone, Copy, Debug, PartialEq, Eq)]
 pub struct Header {
-    // by the place of the key, in the order in which they are written
+    // By the place of the key, in the order in which keys are written.
     numbers: [Option<u32>; KEYS],
 }
 
 impl Header {
-    /// Where no key stood.
+    /// Makes a header before any key.
     pub fn blank() -> Header
         ensures { result ≡ no_key }
     {
@@ -43,7 +43,7 @@ impl Header {
         }
     }
 
-    /// This header, and a key with this number.
+    /// Returns this header with a number for the key.
     pub fn with(mut self, key: HeaderKey, number: u32) -> Header
         ensures { result ≡ with_key self key number }
     {
@@ -51,7 +51,7 @@ impl Header {
         self
     }
 
-    // The number of a key that stood.
+    // Returns the number of a key that was read.
     #[inline]
     fn number(&self, key: HeaderKey) -> Option<u32>
         ensures { result ≡ number_of self.now key }
@@ -59,7 +59,7 @@ impl Header {
         self.numbers[key.place()]
     }
 
-    /// The number of a key, or 0 before it stood.
+    /// Returns the number of a key, or 0 before it was read.
     #[inline]
     pub fn count(&self, key: HeaderKey) -> u32
         ensures { result ≡ count_in self.now key }
@@ -67,14 +67,14 @@ impl Header {
         self.number(key).unwrap_or(0)
     }
 
-    /// Whether a key stood before.
+    /// Returns whether a key was read.
     pub fn is_given(&self, key: HeaderKey) -> bool
         ensures { result ≡ is_given key self.now }
     {
         self.number(key).is_some()
     }
 
-    /// Whether all keys stood.
+    /// Returns whether all keys were read.
     #[tactic(auto, using(crate::proofs::keys::HeaderFacts::all_numbers))]
     pub fn is_complete(&self) -> bool
         ensures { result ≡ is_complete self.now }
@@ -83,7 +83,7 @@ impl Header {
     }
 }
 
-// Keeps the number of a key at its place.
+// Stores the number of a key at its place.
 #[tactic(auto, using(crate::proofs::keys::HeaderFacts::key_set))]
 fn keep(numbers: &mut [Option<u32>; KEYS], key: HeaderKey, number: u32)
     ensures { record { numbers = numbers.new }

@@ -1,4 +1,4 @@
-//! The key lines of a model file that is read.
+//! The key lines of a model file that is being read.
 
 ghost use Rattle.std.specs.Prelude.{◌≡◌, true, false, position, MatchOption};
 ghost use Rattle.std.specs.List.{list_any, before_first, after_first, find};
@@ -17,7 +17,7 @@ use pit_units::after;
 use text_lines::text_fault::TextKind;
 use text_lines::text_fields::next_field;
 
-/// The bytes before the first colon of a line and those behind it, or `None` where it has no colon.
+/// Returns the bytes before and after the first colon of a line, or `None` if it has no colon.
 pub fn cut_at_colon(line: &[u8]) -> Option<(&[u8], &[u8])>
     ensures { MatchOption result (list_any is_colon line.now ≡ false)
         (λ x. (list_any is_colon line.now ≡ true) × (x.0.now ≡ before_first is_colon line.now)
@@ -36,31 +36,31 @@ fn colon_place(line: &[u8]) -> Option<usize>
     memchr(b':', line)
 }
 
-/// Whether the bytes are this word.
+/// Returns whether the bytes are this word.
 pub fn is_exactly(bytes: &[u8], word: &[u8]) -> bool
     ensures { result ≡ bytes_eq bytes.now word.now }
 {
     bytes == word
 }
 
-/// The one field of a line.
+/// Returns the only field of a line.
 ///
 /// # Errors
 ///
-/// `Fields` where there is none or a second one.
+/// `Fields`: there is no field, or more than one.
 pub fn only_value(line: &[u8]) -> Result<&[u8], TextKind>
     ensures { StatesValue result (only_value (fields_of line.now)) }
 {
-    let Some((value, behind)) = next_field(line) else {
+    let Some((value, following)) = next_field(line) else {
         return Err(TextKind::Fields);
     };
-    match next_field(behind) {
+    match next_field(following) {
         Some(_) => Err(TextKind::Fields),
         None => Ok(value),
     }
 }
 
-/// The key that the bytes before a colon are.
+/// Returns the key that the bytes before a colon are, or `None` if they are no key.
 #[tactic(auto, using(crate::proofs::models::ModelFacts::key_of_one, crate::proofs::models::ModelFacts::key_of_none))]
 pub fn key_of(problem: Problem, line: &[u8]) -> Option<ModelKey>
     ensures { result ≡ key_of problem (fields_of line.now) }
@@ -104,21 +104,21 @@ fn section_in(word: &[u8]) -> Option<ModelKey>
     }
 }
 
-/// Whether no section has begun.
+/// Returns whether no section has begun.
 pub fn is_heading(section: Section) -> bool
     ensures { result ≡ is_heading section }
 {
     matches!(section, Section::Heading)
 }
 
-/// Whether the section is the last.
+/// Returns whether the section is the last.
 pub fn is_limits(section: Section) -> bool
     ensures { result ≡ is_limits section }
 {
     matches!(section, Section::Limits)
 }
 
-/// Whether the second section follows the first.
+/// Returns whether the second section follows the first.
 pub fn is_next(section: Section, next: Section) -> bool
     ensures { result ≡ is_next section next }
 {

@@ -1,4 +1,4 @@
-//! Reading a model file.
+//! A reader of model files.
 
 ghost use Rattle.std.specs.Prelude.{◌≤◌};
 ghost use Rattle.minelib_reading.specs.ModelText.{model_in};
@@ -13,11 +13,12 @@ use std::alloc::Global;
 use text_lines::line_by_line::read_lines;
 use text_lines::text_fault::LineFault;
 
-/// What the model file of a problem states, of so many blocks.
+/// Returns the content of a problem's model file for `blocks` blocks.
 ///
 /// # Errors
 ///
-/// The first faulty line, or `OutOfMemory`.
+/// - `Fault`: the first invalid line.
+/// - `OutOfMemory`: memory was refused.
 pub fn read_model(
     alloc: Global,
     problem: Problem,

@@ -13,28 +13,28 @@ use Rattle.minelib_writing.specs.declared.lines.coefs.CoefForm.TheVariants.{OfAl
 abbrev pub coef_text : Coef → List ℕ
 coef_text c = line_of (coef_line 0 c) ++ 10 ∷ []
 
--- the same in a CPIT
+-- the line of a coefficient in a CPIT, with its LF
 abbrev pub cpit_coef_text : Coef → List ℕ
 cpit_coef_text c = line_of (cpit_coef_line 0 c) ++ 10 ∷ []
 
--- the part of a coefficient, where values are seen as this list
+-- the part of a coefficient, with the values as this list
 abbrev pub coef_part : {V : Type 0} → (V → List (List ℤ)) → CoefForm V → Coef → List ℕ
 coef_part list OfAll c = coef_text c
 coef_part list (OfChosen values) c = if is_chosen (list values.now) c then cpit_coef_text c else []
 
--- their lines
+-- the lines of coefficients
 abbrev pub coef_lines : {V : Type 0} → (V → List (List ℤ)) → CoefForm V → List Coef → List (List ℕ)
 coef_lines list OfAll coefs = lines_from coef_line 0 coefs
 coef_lines list (OfChosen values) coefs =
     lines_from cpit_coef_line 0 (map at_only_destination (filter (is_chosen (list values.now)) coefs))
 
--- where values count, the block has some
+-- the block has values, if the form needs them
 abbrev pub has_values : {V : Type 0} → (V → List (List ℤ)) → CoefForm V → ℕ → Bool
 has_values list OfAll block = true
 has_values list (OfChosen values) block =
     nat_lt block (length (list values.now)) && nat_lt 0 (length (slice_index_or (list values.now) block []))
 
--- a coefficient that can be written: numbers of one digit
+-- a coefficient that can be written: its numbers have one digit
 abbrev pub FitsForm : {V : Type 0} → (V → List (List ℤ)) → CoefForm V → Coef → Type 0
 FitsForm list form c = (c.d < 10) × (c.r < 10) × IsTrue (has_values list form c.b)
 
@@ -42,7 +42,7 @@ all_whole : (n : ℕ) (coefs : List Coef) → concat (map coef_text coefs) ≡ t
 all_whole n [] = refl
 all_whole n (c ∷ coefs) = ap (λ rest. coef_text c ++ rest) (all_whole (n + 1) coefs)
 
--- one coefficient more
+-- the next coefficient
 one_more : (c : Coef) (coefs : List Coef) (others : List ℕ) (n : ℕ) (chosen : Bool)
     → others ≡ text_of (lines_from cpit_coef_line (n + 1) (map at_only_destination coefs))
     → others ≡ text_of (lines_from cpit_coef_line n (map at_only_destination coefs))
@@ -57,7 +57,7 @@ chosen_whole : (p : Coef → Bool) (n : ℕ) (coefs : List Coef)
 chosen_whole p n [] = refl
 chosen_whole p n (c ∷ coefs) = one_more c (filter p coefs) _ n (p c) (chosen_whole p (n + 1) coefs) (chosen_whole p n coefs)
 
--- the parts are the lines
+-- the parts together are the lines
 pub coef_lines_whole : {V : Type 0} (list : V → List (List ℤ)) (form : CoefForm V) (coefs : List Coef)
     → concat (map (coef_part list form) coefs) ≡ text_of (coef_lines list form coefs)
 coef_lines_whole list OfAll coefs = all_whole 0 coefs

@@ -1,10 +1,10 @@
--- How the texts of identifiers are seen as how many they are.
+-- The number of identifiers that texts represent.
 use Rattle.std.specs.Prelude.{◌≡◌, ℕ, ◌-◌, ◌<◌, length}
 use Rattle.std.specs.List.{range_with_len}
 use Rattle.minelib_writing.specs.declared.id_text.IdText.TheInside.{Inside}
 use Rattle.minelib_writing.specs.inner.Spaced.{spaced, AreStarts}
 
--- each has a start, and the last an end
+-- each identifier has a start, and the last has an end
 abbrev pub ids_in : Inside → ℕ
 ids_in t = length t.starts.items - 1
 

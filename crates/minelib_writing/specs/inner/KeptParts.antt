@@ -1,6 +1,6 @@
--- What is known of the parts at some places.
+-- Facts about the parts at some positions.
 use Rattle.std.specs.Prelude.{ℕ, ◌<◌, ◌≤◌}
 
--- of each place from one on, before another
+-- about each position from one on, before another
 abbrev pub HoldsFrom : (ℕ → Type 0) → ℕ → ℕ → Type 0
 HoldsFrom Holds start end = (place : ℕ) → start ≤ place → place < end → Holds place

@@ -1,4 +1,4 @@
--- The parts that lines are written in, some of them, and the lines that they make.
+-- The parts that lines are written in, some of these parts, and the lines that they form.
 use Rattle.std.specs.Prelude.{◌≡◌, ℕ, List, [], ◌∷◌, ◌++◌, drop, map, take}
 use Rattle.std.specs.List.{concat}
 use Rattle.std.proofs.Common.{refl, ap}
@@ -9,12 +9,12 @@ use Rattle.minelib_writing.specs.Written.{prec_line}
 abbrev pub line_parts : List (List ℕ) → List (List ℕ)
 line_parts lines = map (λ line. line ++ 10 ∷ []) lines
 
--- they are the lines
+-- the parts together are the lines
 pub lines_whole : (lines : List (List ℕ)) → concat (line_parts lines) ≡ text_of lines
 lines_whole [] = refl
 lines_whole (line ∷ lines) = ap (λ rest. (line ++ 10 ∷ []) ++ rest) (lines_whole lines)
 
--- the text of n parts from one on
+-- the text of n parts from an index on
 abbrev pub text_from : List (List ℕ) → ℕ → ℕ → List ℕ
 text_from parts index n = concat (take n (drop index parts))
 

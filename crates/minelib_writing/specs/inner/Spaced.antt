@@ -1,11 +1,11 @@
--- Identifiers in a line, each behind a space, and where each begins in the text of 0, 1, 2, ..
+-- Identifiers in a line, each after a space, and the start of each in the text of 0, 1, 2, ..
 use Rattle.std.specs.Prelude.{◌≡◌, ℕ, ◌<◌, List, ◌∷◌, decimal, length, slice_index}
 use Rattle.std.specs.List.{flat_map, range_with_len}
 
 abbrev pub spaced : List ℕ → List ℕ
 spaced ids = flat_map (λ id. 32 ∷ decimal id) ids
 
--- where the text of an identifier begins, behind those of all smaller ones
+-- the start of an identifier's text, after the texts of all smaller ones
 abbrev pub start_in : ℕ → ℕ
 start_in id = length (spaced (range_with_len 0 id))
 

@@ -16,8 +16,8 @@ use devices::sinks::write_fault::WriteFault;
 use precedence::{IdRun, LentLists, MadeLists, PredLists};
 use std::alloc::{AllocError, Global};
 
-/// Writes the line of each block behind what the buffer holds. The runs of a block are asked for when its line is written. `texts` has
-/// the texts of the blocks' identifiers, and of those of their predecessors.
+/// Writes the line of each block after the bytes that the buffer holds. Requests the ranges of a block when its line is written. `texts`
+/// has the texts of the identifiers of the blocks and of their predecessors.
 pub fn write_preds<S: Sink, P: PredLists>(
     alloc: Global,
     sink: &mut S,
@@ -36,7 +36,7 @@ pub fn write_preds<S: Sink, P: PredLists>(
     write_counted(alloc, sink, buffer, &mut lent, texts, &mut arcs)
 }
 
-/// The same of lists that are made, and counts the predecessors of all blocks in `arcs`.
+/// Writes the lines of lazily computed lists like `write_preds`, and counts the predecessors of all blocks in `arcs`.
 pub fn write_counted<S: Sink, M: MadeLists>(
     alloc: Global,
     sink: &mut S,
@@ -60,7 +60,7 @@ pub fn write_counted<S: Sink, M: MadeLists>(
     Ok(())
 }
 
-// Writes the line of one block, and adds to `arcs` how many predecessors it has. The vector is room for their runs.
+// Writes the line of one block, and adds the number of its predecessors to `arcs`. The vector is scratch space for their ranges.
 #[tactic(auto, using(crate::proofs::SectionsWritten::nothing_put))]
 fn write_line<S: Sink, M: MadeLists>(
     sink: &mut S,
@@ -87,7 +87,7 @@ fn write_line<S: Sink, M: MadeLists>(
     Ok(())
 }
 
-// Appends the line of a block, and answers how many predecessors it has.
+// Appends the line of a block, and returns the number of its predecessors.
 fn append_line<M: MadeLists>(
     out: &mut Vec<u8>,
     preds: &mut M,
@@ -130,7 +130,7 @@ fn append_preds(
     Ok(count)
 }
 
-/// How many identifiers the runs have.
+/// Returns the number of identifiers in the ranges.
 pub fn count_of(runs: &[IdRun]) -> u64
     requires { length (ids_of runs.now) < 2 ^ 63 }
     ensures { result ≡ length (ids_of runs.now) }

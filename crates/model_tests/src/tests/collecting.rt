@@ -10,7 +10,7 @@ fn row(file: u8, place: u32) -> Result<Valued, Fail> {
     Ok(valued(file, place, 0, &[7]).ok_or("a row")?)
 }
 
-// What is added: a row by its file and place, or an end mark by its file and count.
+// An addition: a row by its file and place, or an end mark by its file and count.
 enum Step {
     Row(u8, u32),
     End(u8, u32),
@@ -26,10 +26,10 @@ fn item_of(step: &Step) -> Result<Item, Fail> {
     }
 }
 
-// Steps, each with what is answered.
+// Additions, each with its result.
 type Steps = &'static [(Step, Result<(), AddFault>)];
 
-// A collector, what it answers to an item, and its lists: the contracts of these calls are of no use here, and make proofs long.
+// A new collector, its additions and its lists. The contracts of these calls are not needed here, and make proofs long.
 fn new_collector(alloc: Global, files: u8) -> Result<Collector, AllocError> {
     Collector::new(alloc, files)
 }
@@ -42,7 +42,7 @@ fn add(collector: &mut Collector, item: Item) -> Result<(), AddFault> {
     collector.add(item)
 }
 
-// A collector of so many files to which these steps were added.
+// Returns a collector of `files` files after these additions.
 fn stepped(rt: &impl Abort, alloc: Global, files: u8, steps: Steps) -> Result<Collector, Fail> {
     let mut collector = new_collector(alloc, files)?;
     for (step, answer) in steps {
@@ -80,7 +80,7 @@ const AT_THE_EDGES: Steps = &[
 
 const WHOLE: Steps = &[(Step::Row(0, 0), Ok(())), (Step::End(0, 1), Ok(()))];
 
-// Steps to collectors of two files, and the row that is then missing.
+// Additions to collectors of two files, and the row that is then missing.
 const LACKING: [(Steps, u8, u32); 3] = [
     (WITHOUT_AN_END, 1, 0),
     (WITHOUT_A_ROW, 0, 1),

@@ -1,4 +1,4 @@
-//! Lists of predecessors that are kept: the program finds each as it writes it.
+//! Stored lists of predecessors: the program computes each when it writes it.
 
 ghost use Rattle.std.specs.Prelude.{IsTrue};
 ghost use Rattle.precedence.specs.Zones.{HasZones};
@@ -6,7 +6,7 @@ ghost use Rattle.precedence.specs.Zones.{HasZones};
 use pit_model::plan::Plan;
 use pit_model::read_plan;
 use plan_parts::block::Block;
-use precedence::{EnoughPreds, FoundPreds, Numbering, PredLists, Preds, number_blocks, preds};
+use precedence::{FoundPreds, Numbering, PredLists, Preds, number_blocks, preds};
 use std::alloc::Global;
 use std::test::Fail;
 
@@ -29,7 +29,7 @@ const NINE_ABOVE: &[Place] = &[
     [2, 2, 1],
 ];
 
-// Lists by identifier. Where the lists end, the blocks behind them have none.
+// Lists in order of identifier. Blocks after the last list have no predecessors.
 type Lists = &'static [(u32, &'static [u32])];
 
 fn blocks_at(alloc: Global, places: &[Place]) -> Result<Vec<Block>, Fail> {
@@ -63,12 +63,12 @@ fn lists_by(alloc: Global, numbering: &Numbering, plan: &Plan) -> Result<Preds, 
     Ok(preds(alloc, numbering, plan)?)
 }
 
-// Whether the block of an identifier has this list.
+// Returns whether the block with an identifier has this list.
 fn is_list(lists: &Preds, id: u32, list: &[u32]) -> bool {
     (id as usize) < lists.len() && lists.of(id) == list
 }
 
-// Whether blocks, which stand in the order of their identifiers, have these lists, and so many arcs in all.
+// Returns whether blocks, in the order of their identifiers, have these lists, and `arcs` arcs altogether.
 fn have_lists(
     alloc: Global,
     plan: &[u8],
@@ -95,7 +95,7 @@ fn nine_above(rt: HostRuntime) -> Result<(), Fail> {
     Ok(())
 }
 
-// A row of ten blocks below another.
+// A row of ten blocks below another one.
 const TWO_ROWS: &[Place] = &[
     [0, 0, 0],
     [1, 0, 0],
@@ -129,22 +129,27 @@ fn found_in(alloc: Global, plan: &[u8], places: &[Place]) -> Result<FoundPreds, 
     Ok(FoundPreds::new(alloc, &numbering, &plan)?)
 }
 
-// How many blocks behind a block have its list moved along.
-fn moved(lists: &FoundPreds, block: u32) -> u32 {
+// Whether a block retains these of its list.
+fn retains(
+    alloc: Global,
+    lists: &mut FoundPreds,
+    block: u32,
+    wanted: &[u32],
+) -> Result<bool, Fail> {
+    let mut ids = Vec::new(alloc);
     if (block as usize) < lists.count() {
-        lists.moved(block)
-    } else {
-        0
+        lists.add_retained(&mut ids, block)?;
     }
+    Ok(ids.as_slice() == wanted)
 }
 
-// The block in the west has none above it to its west, and those in the east none to their east.
+// The westernmost block has no predecessor to its west, and the easternmost none to its east.
 #[test]
-fn lists_in_a_row_are_moved_along(rt: HostRuntime) -> Result<(), Fail> {
-    let found = found_in(rt.alloc(), ONE_BENCH, TWO_ROWS)?;
-    assert!(rt; moved(&found, 0) == 0);
-    assert!(rt; moved(&found, 1) == 7);
-    assert!(rt; moved(&found, 6) == 2);
-    assert!(rt; moved(&found, 9) == 0);
+fn blocks_of_a_row_share_a_window(rt: HostRuntime) -> Result<(), Fail> {
+    let mut found = found_in(rt.alloc(), ONE_BENCH, TWO_ROWS)?;
+    assert!(rt; retains(rt.alloc(), &mut found, 0, &[10, 11])?);
+    assert!(rt; retains(rt.alloc(), &mut found, 1, &[10, 11, 12])?);
+    assert!(rt; retains(rt.alloc(), &mut found, 8, &[17, 18, 19])?);
+    assert!(rt; retains(rt.alloc(), &mut found, 9, &[18, 19])?);
     Ok(())
 }

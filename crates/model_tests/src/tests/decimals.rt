@@ -1,11 +1,11 @@
-// What no clause says: that the definitions are the decimals of worked examples, and that calls succeed where memory is ample.
+// What no clause states: the definitions agree with worked examples, and calls with enough memory succeed.
 ghost use Rattle.std.specs.Prelude.{◌≤◌};
 
-use pit_units::{Dec, DecFault, front_dec, front_whole, parse_dec, put_dec};
+use pit_units::{Dec, DecFault, leading_dec, leading_integer, parse_dec, put_dec};
 use std::alloc::Global;
 use std::test::Fail;
 
-// Texts, how many decimals they may have, and the millionths or the fault that each is read as.
+// Texts, the allowed number of decimals, and the millionths or the fault that each is read as.
 const READ: &[(&str, u8, Result<i128, DecFault>)] = &[
     (".5", 6, Ok(500_000)),
     ("5.", 6, Ok(5_000_000)),
@@ -17,7 +17,7 @@ const READ: &[(&str, u8, Result<i128, DecFault>)] = &[
     ("0.0000001", 6, Err(DecFault::TooFine)),
     ("1000000000000000000", 6, Ok(MOST)),
     ("1000000000000000000.000001", 6, Err(DecFault::Range)),
-    // further spellings
+    // other encodings
     ("007", 6, Ok(7_000_000)),
     ("+.25", 6, Ok(250_000)),
     ("-1.5", 6, Ok(-1_500_000)),
@@ -89,8 +89,8 @@ fn decimal_spellings(rt: HostRuntime) -> Result<(), Fail> {
     Ok(())
 }
 
-// Texts, and the whole number of up to 18 digits and the rest that each begins with, if it begins with a digit.
-const WHOLE_FRONTS: &[(&str, Option<(u64, &str)>)] = &[
+// Texts, and the integer of up to 18 digits with which each begins, if it begins with a digit, and the remainder.
+const INTEGER_PREFIXES: &[(&str, Option<(u64, &str)>)] = &[
     ("12 x", Some((12, " x"))),
     ("007", Some((7, ""))),
     ("5.25", Some((5, ".25"))),
@@ -103,8 +103,9 @@ const WHOLE_FRONTS: &[(&str, Option<(u64, &str)>)] = &[
     ("+1", None),
 ];
 
-// Texts, how many decimals they may have, and the millionths and the rest that each begins with. Before the point at most 10^12 may stand.
-const DECIMAL_FRONTS: &[(&str, u8, Option<(i64, &str)>)] = &[
+// Texts, the allowed number of decimals, and the millionths with which each begins, and the remainder. The part before the point
+// may be at most 10^12.
+const DECIMAL_PREFIXES: &[(&str, u8, Option<(i64, &str)>)] = &[
     ("12.5 x", 3, Some((12_500_000, " x"))),
     ("-0.01", 6, Some((-10_000, ""))),
     ("7", 0, Some((7_000_000, ""))),
@@ -128,11 +129,11 @@ const DECIMAL_FRONTS: &[(&str, u8, Option<(i64, &str)>)] = &[
     ("", 6, None),
 ];
 
-// Whether a number and what stands behind it were found, or neither.
-fn is_front<N: PartialEq + Drop>(found: Option<(N, &[u8])>, wanted: Option<(N, &str)>) -> bool {
+// Returns whether the number and the text after it were found, or neither is wanted.
+fn is_prefix<N: PartialEq + Drop>(found: Option<(N, &[u8])>, wanted: Option<(N, &str)>) -> bool {
     match (found, wanted) {
-        (Some((number, rest)), Some((wanted, behind))) => {
-            number == wanted && rest == behind.as_bytes()
+        (Some((number, rest)), Some((wanted, following))) => {
+            number == wanted && rest == following.as_bytes()
         }
         (None, None) => true,
         _ => false,
@@ -140,19 +141,19 @@ fn is_front<N: PartialEq + Drop>(found: Option<(N, &[u8])>, wanted: Option<(N, &
 }
 
 fn begins_whole(text: &str, wanted: Option<(u64, &str)>) -> bool {
-    is_front(front_whole(text.as_bytes()), wanted)
+    is_prefix(leading_integer(text.as_bytes()), wanted)
 }
 
 fn begins_decimal(text: &str, decimals: u8, wanted: Option<(i64, &str)>) -> bool {
-    is_front(front_dec(text.as_bytes(), decimals.min(6)), wanted)
+    is_prefix(leading_dec(text.as_bytes(), decimals.min(6)), wanted)
 }
 
 #[test]
-fn fronts_of_texts(rt: HostRuntime) {
-    for (text, wanted) in WHOLE_FRONTS {
+fn prefixes_of_texts(rt: HostRuntime) {
+    for (text, wanted) in INTEGER_PREFIXES {
         assert!(rt; begins_whole(text, *wanted), "at {text}");
     }
-    for (text, decimals, wanted) in DECIMAL_FRONTS {
+    for (text, decimals, wanted) in DECIMAL_PREFIXES {
         assert!(rt; begins_decimal(text, *decimals, *wanted), "at {text}");
     }
 }

@@ -5,8 +5,8 @@ use devices::feeds::slurp::{SlurpFault, slurp};
 use std::alloc::{AllocError, Global};
 use std::test::Fail;
 
-// A text, the pull that fails or 0 for none, and what is answered with a limit of four bytes. The first pull gives all of them, the second
-// tells the end.
+// A text, the pull that fails (0 for none), and the result for a limit of four bytes. The first pull gives the whole text, the
+// second the end.
 const READS: [(&str, u64, Result<(), SlurpFault>); 7] = [
     ("", 0, Ok(())),
     ("abcd", 0, Ok(())),
@@ -45,7 +45,7 @@ fn failing_devices(rt: HostRuntime) -> Result<(), Fail> {
     Ok(())
 }
 
-// A feed that gives so many bytes a pull at most.
+// Returns a feed that gives at most `step` bytes a pull.
 fn cutting(alloc: Global, text: &str, step: usize) -> Result<MemFeed, AllocError>
     requires { 1 ≤ step }
 {
@@ -58,7 +58,7 @@ const PIECES: [(&str, Result<(), SlurpFault>); 3] = [
     ("abcdefgh", Err(SlurpFault::TooLong)),
 ];
 
-// However few bytes a pull gives, a text is read up to the limit and no further.
+// A text is read up to the limit and no further, for any number of bytes a pull.
 #[test]
 fn texts_in_pieces(rt: HostRuntime) -> Result<(), Fail> {
     for (text, answer) in &PIECES {

@@ -1,4 +1,4 @@
-//! Instances that are made by hand, built, and told valid or not.
+//! Instances made manually, built, and tested for validity.
 
 mod coefs;
 mod instance;

@@ -4,7 +4,7 @@ use precedence::{Same, number};
 use rows::Valued;
 use std::test::Fail;
 
-// Four rows of two files, of blocks at these indices along x.
+// Returns four rows of two files, with blocks at these indices along x.
 fn four_rows(places: [u16; 4]) -> Option<[Valued; 4]> {
     let [a, b, c, d] = places;
     Some([

@@ -1,4 +1,4 @@
-//! The parts that a plan lends, and which bytes are NAMEs.
+//! The parts that a plan returns, and which bytes are NAMEs.
 
 use pit_model::plan::Plan;
 use pit_model::read_plan;
@@ -12,7 +12,7 @@ use plan_parts::resource::Resource;
 use std::alloc::{AllocError, Global};
 use std::test::Fail;
 
-// A plan in which each number stands once, so that none can stand in another's place.
+// A plan in which each number appears once, so none can replace another unnoticed.
 const PARTS: &[u8] =
     b"name,North_Pit-2.b\ngrid,-0.5,20,3000.125,7.5,12.25,3.125\nzone,1,2,3,4,5,6,7,8,9\nzone,10,11,12\nmill,mill,900,600,1500\ndump,dump,200\nperiods,2\nrate,0.1\nresource,plant,mill\nresource,trucks,dump,mill\nlimit,trucks,0,G,1.5\nlimit,plant,1,I,0,900\nlimit,plant,0,L,500.5\n";
 
@@ -31,7 +31,7 @@ const GRID: Grid = Grid {
     },
 };
 
-// The first zone has a slope for each side, the second one for all.
+// The first zone has a slope for each side, the second has one for all sides.
 const CONES: [Cone; 2] = [
     Cone {
         east: Slope { p: 1, q: 2 },
@@ -49,7 +49,7 @@ const CONES: [Cone; 2] = [
     },
 ];
 
-// NAME and destinations of each resource.
+// The NAME and the destinations of each resource.
 const RESOURCES: [(&str, &[u8]); 2] = [("plant", &[0]), ("trucks", &[1, 0])];
 
 fn are_resources(resources: &[Resource]) -> bool {
@@ -76,7 +76,7 @@ fn are_formulas(formulas: &[NamedFormula]) -> bool {
     }
 }
 
-// The limits, by resource and period.
+// Returns the limits, in order of resource and period.
 fn limits() -> Option<[Limit; 3]> {
     Some([
         Limit {
@@ -116,7 +116,7 @@ fn parts_of_a_plan(rt: HostRuntime) -> Result<(), Fail> {
     Ok(())
 }
 
-// Bytes, and whether they spell a NAME.
+// Bytes, and whether they are a NAME.
 const NAMES: [(&[u8], bool); 8] = [
     (b"a", true),
     (b"Az_09-.z", true),
@@ -134,7 +134,7 @@ const NAMES: [(&[u8], bool); 8] = [
     (b"\xFF", false),
 ];
 
-// Whether a NAME is read of these bytes, and tells them.
+// Returns whether these bytes are read as a NAME, which has the same text.
 fn is_name(alloc: Global, bytes: &[u8]) -> Result<bool, AllocError> {
     match Name::read(alloc, bytes)? {
         Some(name) => Ok(name.is(bytes) && name.copy(alloc)?.as_str().as_bytes() == bytes),

@@ -13,7 +13,7 @@ use std::io::{self, ErrorKind, Read, Seek, SeekFrom, Write};
 use std::rt::Files;
 use std::test::Fail;
 
-// A file whose reads and writes take three bytes at most. The first of them is interrupted once, the second twice, and so on.
+// A file whose reads and writes take at most three bytes. The first call is interrupted once, the second twice, and so on.
 #[derive(Drop)]
 struct Interrupted<F> {
     file: F,
@@ -22,7 +22,7 @@ struct Interrupted<F> {
 }
 
 impl<F> Interrupted<F> {
-    // Whether this call is interrupted.
+    // Returns whether this call is interrupted.
     fn is_interrupted(&mut self) -> bool {
         if self.interrupts > 0 {
             self.interrupts -= 1;
@@ -81,7 +81,7 @@ impl<F: OpenFile> OpenFile for Interrupted<F> {
     }
 }
 
-// The files of a system, as such files.
+// The files of a system as files with interrupts.
 #[derive(Drop)]
 struct Signals<'a, R> {
     rt: &'a R,
@@ -139,7 +139,7 @@ impl<'a, R: Files> Files for Signals<'a, R> {
 
 const TEXT: &[u8] = b"0 0 0 0 1 0 0\n1 1 0 0 1 0 0\n";
 
-// What is written to a file and read from it, where each of these calls is interrupted.
+// A text that is written to a file and read from it, if each of these calls is interrupted.
 #[test]
 fn interrupted_calls_lose_nothing(rt: HostRuntime) -> Result<(), Fail> {
     let path = "interrupted_calls_lose_nothing";

@@ -1,4 +1,4 @@
-//! The worths of a row, as they are kept.
+//! The stored worths of a row.
 
 use rows::Worths;
 

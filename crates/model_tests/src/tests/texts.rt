@@ -1,4 +1,4 @@
-//! The texts that are written and read, and what takes them.
+//! The files that are written and read, and their sinks.
 
 ghost use Rattle.std.specs.Prelude.{IfOk};
 ghost use Rattle.mine_instance.specs.Valid.{IsValid};
@@ -21,10 +21,10 @@ mod reader;
 mod section_sink;
 mod writers;
 
-/// The texts of blocks, of precedences and of a production scheduling problem.
+/// The texts of a block file, a precedence file and a production scheduling file.
 pub type Texts = [&'static str; 3];
 
-// Two blocks under a mill and a dump, with a resource and its limits.
+// Two blocks with a mill and a dump, a resource and its limits.
 const BLOCKS: &str = "0 0 0 0 1000 5000 0\n1 1 0 0 0 7 0\n";
 
 const PREC: &str = "0 1 1\n1 0\n";
@@ -36,10 +36,10 @@ const PCPSP: &str = pcpsp! {
     limits: ["0 0 L 500.5", "0 1 I 0 900"],
 };
 
-/// Their texts.
+/// The texts of these blocks.
 pub const LIMITED: Texts = [BLOCKS, PREC, PCPSP];
 
-// A block below the nine of the bench above it, at a mill that each of them costs 15.
+// A block below nine blocks on the bench above it, each of which costs 15 at the mill.
 const NINE_ABOVE: Texts = [
     "0 1 1 0 1 0 0\n1 0 0 1 1 0 0\n2 1 0 1 1 0 0\n3 2 0 1 1 0 0\n4 0 1 1 1 0 0\n5 1 1 1 1 0 0\n6 2 1 1 1 0 0\n7 0 2 1 1 0 0\n8 1 2 1 1 0 0\n9 2 2 1 1 0 0\n",
     "0 5 2 4 5 6 8\n1 0\n2 0\n3 0\n4 0\n5 0\n6 0\n7 0\n8 0\n9 0\n",
@@ -51,7 +51,7 @@ const NINE_ABOVE: Texts = [
     },
 ];
 
-// One block of ore under a mill.
+// One block of ore with a mill.
 const ONE_ORE_BLOCK: Texts = [
     "0 0 0 0 1000 5000 0\n",
     "0 0\n",
@@ -71,7 +71,7 @@ const CPIT: &str = cpit! {
     limits: ["0 0 L 500.5", "0 1 I 0 900"],
 };
 
-/// The instance of these texts.
+/// Returns the instance of these texts.
 pub fn instance_of(alloc: Global, texts: Texts) -> Result<Instance, Fail>
     ensures { IfOk result IsValid }
 {
@@ -79,7 +79,7 @@ pub fn instance_of(alloc: Global, texts: Texts) -> Result<Instance, Fail>
     Ok(read_instance(alloc, blocks.as_bytes(), prec.as_bytes(), pcpsp.as_bytes())?)
 }
 
-// Writes the text of this name, of an instance.
+// Writes an instance's text with this name.
 fn write(
     alloc: Global,
     name: TextName,
@@ -91,7 +91,7 @@ fn write(
     write_named(alloc, name, instance, sink)
 }
 
-// Whether this is the text of this name.
+// Returns whether this is the instance's text with this name.
 fn is_text(
     alloc: Global,
     name: TextName,

@@ -1,4 +1,4 @@
-//! The end of a zone file or its first fault, which is answered ever after.
+//! The end of a zone file or its first fault, which every later call returns too.
 
 use pit_model::plan::Plan;
 use pit_model::read_plan;
@@ -15,14 +15,14 @@ const PLAN: &[u8] =
 // The index of a block along x, its kilograms, and its grade in millionths of a gram per tonne.
 type Row = (u16, u64, u64);
 
-// A text, its block if it has one, and the fault behind it, if there is one.
+// A text, its block if it has one, and the fault after it, if there is one.
 type File = (
     &'static [u8],
     Option<Row>,
     Option<(u32, Column, RowFaultKind)>,
 );
 
-// A file without rows, one with a row, and files whose first or second record is faulty.
+// A file without rows, one with a row, and files with an invalid first or third record.
 const FILES: [File; 4] = [
     (b"x,y,z,tonnes,grade\n", None, None),
     (
@@ -58,7 +58,7 @@ fn is_next(reader: &mut ZoneReader, answer: Result<Option<Block>, OrMemory<RowFa
     reader.next() == answer
 }
 
-// Whether a reader answers a block, if there is one.
+// Returns whether a reader returns a block, if there is one.
 fn gives(reader: &mut ZoneReader, row: Option<Row>) -> bool {
     match row {
         Some((x, kg, grade)) => is_next(reader, Ok(Block::new(x, 0, 0, kg, grade, 0))),
@@ -66,7 +66,7 @@ fn gives(reader: &mut ZoneReader, row: Option<Row>) -> bool {
     }
 }
 
-// Whether a reader answers this fault, or none, now and ever after.
+// Returns whether a reader returns this fault, or the end, at three calls.
 fn ends(reader: &mut ZoneReader, fault: Option<(u32, Column, RowFaultKind)>) -> bool {
     let answer = match fault {
         Some((row, column, kind)) => Err(OrMemory::Fault(RowFault { row, column, kind })),
@@ -75,13 +75,13 @@ fn ends(reader: &mut ZoneReader, fault: Option<(u32, Column, RowFaultKind)>) -> 
     is_next(reader, answer) && is_next(reader, answer) && is_next(reader, answer)
 }
 
-// Whether a reader of the text answers so.
+// Returns whether a reader of the text returns its block, and then its fault or end.
 fn is_read(alloc: Global, (text, row, fault): &File) -> Result<bool, Fail> {
     let mut reader = reader_of(alloc, text.to_vec(alloc)?)?;
     Ok(gives(&mut reader, *row) && ends(&mut reader, *fault))
 }
 
-// The program asks no more once a file has ended.
+// The program does not call again once a file has ended.
 #[test]
 fn ends_are_answered_again(rt: HostRuntime) -> Result<(), Fail> {
     for (place, file) in FILES.iter().enumerate() {

@@ -1,8 +1,8 @@
--- How the fields of a plan that is being read are seen, and what they keep.
+-- How contracts see the fields of a plan that is being read, and what its fields satisfy.
 use Rattle.std.specs.Prelude.{◌<◌, ◌≤◌, length, ◌≤ℤ◌, pos, All, IfSome, unwrap_or}
 use Rattle.pit_model.specs.declared.draft.Draft.TheInside.{Inside}
-use Rattle.plan_parts.specs.formulas.Formula.{IsRuled}
-use Rattle.plan_parts.specs.PlanKept.{IsGrid, IsCone, IsBound, AreCovers, RiseStrictly}
+use Rattle.plan_parts.specs.formulas.Formula.{IsFormulaInRange}
+use Rattle.plan_parts.specs.PlanInvariant.{IsGrid, IsCone, IsBound, AreCovers, RiseStrictly}
 use Rattle.pit_model.specs.Stated.{Stated}
 use Rattle.plan_parts.specs.declared.ranges.TheConstants.{MAX_DESTINATIONS, MAX_PERIODS, MAX_RATE, MAX_RESOURCES, MAX_ZONES}
 
@@ -18,13 +18,13 @@ stated_of d = record {
   limits = d.limits.items;
 }
 
--- each part that was read is in range
+-- each stated part is in range
 pub record KeepsStated (s : Stated) : Type 0 where
   pub grid : IfSome s.grid IsGrid
   pub zones : length s.cones ≤ MAX_ZONES
   pub cones : All IsCone s.cones
   pub destinations : length s.formulas ≤ MAX_DESTINATIONS
-  pub formulas : All (λ f. IsRuled f.formula) s.formulas
+  pub formulas : All (λ f. IsFormulaInRange f.formula) s.formulas
   pub periods : IfSome s.periods (λ n. (1 ≤ n) × (n ≤ MAX_PERIODS))
   pub rate : IfSome s.rate (λ r. (pos 0 ≤ℤ r) × (r ≤ℤ MAX_RATE))
   pub resources : length s.resources ≤ MAX_RESOURCES

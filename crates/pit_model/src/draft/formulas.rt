@@ -1,9 +1,9 @@
-//! The records of destinations: for each formula its key, and how its cells are read.
+//! The records of destinations: the key and the cells of each formula.
 
 ghost use Rattle.std.specs.Prelude.{◌≡◌, ◌≤◌, length, All};
 ghost use Rattle.pit_units.specs.OrMemory.{Gives};
-ghost use Rattle.plan_parts.specs.formulas.BandsKept.{IsBand};
-ghost use Rattle.plan_parts.specs.formulas.Formula.{IsRuled};
+ghost use Rattle.plan_parts.specs.formulas.BandsInvariant.{IsBand};
+ghost use Rattle.plan_parts.specs.formulas.Formula.{IsFormulaInRange};
 ghost use Rattle.pit_model.specs.DestinationRecords.{destination_more, destination_record, fresh_destination, fresh_leach, rising};
 ghost use Rattle.pit_model.specs.PlanKeys.{formula_key_of};
 ghost use Rattle.pit_model.specs.declared.draft.formulas.FormulaKey.TheVariants as key;
@@ -13,7 +13,7 @@ use crate::band_cells::bands_in;
 use crate::cells::Cells;
 use crate::draft::Draft;
 use crate::named::{has_destination, name_in};
-use crate::numbers::whole_in;
+use crate::numbers::integer_in;
 use crate::plan_fault::PlanFaultKind;
 use pit_units::OrMemory;
 use plan_parts::formulas::band::{Band, Bands, starts_rise};
@@ -22,7 +22,7 @@ use plan_parts::name::Name;
 use plan_parts::ranges::{MAX_BANDS, MAX_COST, MAX_DESTINATIONS, MAX_PRICE, MAX_RECOVERY};
 use records::cells::is_word;
 
-/// Which formula the record of a destination states.
+/// The key of a destination's record: its formula.
 #[derive(Clone, Copy, Debug, PartialEq, Eq)]
 pub enum FormulaKey {
     Mill,
@@ -30,7 +30,7 @@ pub enum FormulaKey {
     Dump,
 }
 
-/// The formula whose key a cell is, in upper or lower case.
+/// Returns the formula whose key is the cell, in upper or lower case.
 pub fn formula_key_of(cell: &[u8]) -> Option<FormulaKey>
     ensures { result ≡ formula_key_of cell.now }
 {
@@ -46,7 +46,7 @@ pub fn formula_key_of(cell: &[u8]) -> Option<FormulaKey>
 }
 
 impl Draft {
-    /// Adds the destination of a record.
+    /// Adds the destination that a record states. Fails like `admit`; after an error the draft is unspecified.
     pub(crate) fn admit_destination(
         &mut self,
         key: FormulaKey,
@@ -70,9 +70,9 @@ impl Draft {
             return Err(OrMemory::Fault(PlanFaultKind::Width));
         }
         let name = name_in(self.alloc, cells.at(1))?;
-        let recovery = whole_in(cells.at(2), 0, u32::from(MAX_RECOVERY))?;
-        let price = whole_in(cells.at(3), 0, MAX_PRICE)?;
-        let cost = whole_in(cells.at(4), 0, MAX_COST)?;
+        let recovery = integer_in(cells.at(2), 0, u32::from(MAX_RECOVERY))?;
+        let price = integer_in(cells.at(3), 0, MAX_PRICE)?;
+        let cost = integer_in(cells.at(4), 0, MAX_COST)?;
         self.add_new(
             name,
             Formula::Mill {
@@ -91,8 +91,8 @@ impl Draft {
             return Err(OrMemory::Fault(PlanFaultKind::Width));
         }
         let name = name_in(self.alloc, cells.at(1))?;
-        let price = whole_in(cells.at(2), 0, MAX_PRICE)?;
-        let cost = whole_in(cells.at(3), 0, MAX_COST)?;
+        let price = integer_in(cells.at(2), 0, MAX_PRICE)?;
+        let cost = integer_in(cells.at(3), 0, MAX_COST)?;
         let bands = bands_in(self.alloc, cells)?;
         self.add_leach(name, bands, price as u64, cost as u64)
     }
@@ -126,13 +126,13 @@ impl Draft {
             return Err(OrMemory::Fault(PlanFaultKind::Width));
         }
         let name = name_in(self.alloc, cells.at(1))?;
-        let cost = whole_in(cells.at(2), 0, MAX_COST)?;
+        let cost = integer_in(cells.at(2), 0, MAX_COST)?;
         self.add_new(name, Formula::Dump { cost: cost as u64 })
     }
 
-    // Where no destination has the NAME yet.
+    // Adds a destination, unless one has its NAME.
     fn add_new(&mut self, name: Name, formula: Formula) -> Result<(), OrMemory<PlanFaultKind>>
-        requires { IsRuled formula }
+        requires { IsFormulaInRange formula }
         ensures { Gives (λ _. self.new) result (fresh_destination self.old name formula) }
     {
         if has_destination(self.formulas.as_slice(), name.as_str().as_bytes()) {
@@ -141,9 +141,9 @@ impl Draft {
         self.add_formula(name, formula)
     }
 
-    // Where there is room.
+    // Adds a destination, unless there are 8 already.
     fn add_formula(&mut self, name: Name, formula: Formula) -> Result<(), OrMemory<PlanFaultKind>>
-        requires { IsRuled formula }
+        requires { IsFormulaInRange formula }
         ensures { Gives (λ _. self.new) result (destination_more self.old name formula) }
     {
         if self.formulas.len() == MAX_DESTINATIONS as usize {
@@ -154,7 +154,7 @@ impl Draft {
     }
 }
 
-// The bands of a leach, where they rise and are not too many.
+// Returns the bands of a leach, if their starts rise and they are at most 16.
 fn rising(bands: Vec<Band>) -> Result<Bands, PlanFaultKind>
     requires some { 1 ≤ length bands.items }
     requires in_range { All IsBand bands.items }

@@ -1,15 +1,15 @@
--- How the halves of a decimal are seen as its millionths, and back.
+-- Conversions between the halves of a decimal and its millionths.
 use Rattle.std.specs.Prelude.{◌≡◌, ℕ, ◌+◌, ◌*◌, ◌/◌, ◌%◌, ◌^◌, ◌<◌, ◌≤◌, ℤ, pos, ◌+ℤ◌, ◌-ℤ◌, unsigned_abs}
 use Rattle.std.proofs.Common.{◌∙◌, ap}
 use Rattle.std.proofs.lemmas.Nat.{div-mul-add, mod-mul-add}
 use Rattle.std.proofs.Math.IntN as int
 use Rattle.pit_units.specs.declared.decimal.Dec.TheInside.{Inside}
 
--- the number of two digits of 64 bits
+-- the number with two digits of 64 bits
 abbrev pub raised_of : Inside → ℕ
 raised_of dec = dec.high * 2 ^ 64 + dec.low
 
--- that number less 10^24
+-- that number minus 10^24
 abbrev pub millionths_of : Inside → ℤ
 millionths_of dec = pos (raised_of dec) -ℤ pos (10 ^ 24)
 
@@ -17,7 +17,7 @@ millionths_of dec = pos (raised_of dec) -ℤ pos (10 ^ 24)
 abbrev pub KeepsRange : Inside → Type 0
 KeepsRange dec = (raised_of dec ≤ 2 * 10 ^ 24) × (dec.low < 2 ^ 64)
 
--- the halves of so many millionths
+-- the halves of n millionths
 abbrev pub halves_of : ℤ → Inside
 halves_of n = record { high = unsigned_abs (n +ℤ pos (10 ^ 24)) / 2 ^ 64; low = unsigned_abs (n +ℤ pos (10 ^ 24)) % 2 ^ 64 }
 

@@ -10,10 +10,10 @@ returns-in_err-plan-clause-unread g c =
 pub returns-clause-ends : goal.returns-clause-ends
 returns-clause-ends g c =
     let ends = c.in_ok-run.ensures.ends in record {
-      done = λ zero. record { plan = _; between = _; read = c.in_ok-plan.ensures.plan; told = ends.done zero };
+      done = λ zero. record { plan = _; between = _; read = c.in_ok-plan.ensures.plan; reported = ends.done zero };
       quiet = ends.quiet;
       kept = ends.kept;
       refused = λ bad.
-          let told = ends.refused bad in
-          (told.0, record { plan = _; between = _; read = c.in_ok-plan.ensures.plan; why = told.1 }, told.2);
+          let reported = ends.refused bad in
+          (reported.0, record { plan = _; between = _; read = c.in_ok-plan.ensures.plan; why = reported.1 }, reported.2);
     }

@@ -6,10 +6,10 @@ pub returns-clause-ends : goal.returns-clause-ends
 returns-clause-ends g c =
     let ends = c.in_ok-ended.ensures.ends in
     let model = c.in_ok-read_model.ensures.model in record {
-      done = λ zero. let told = ends.done zero in (_, _, model, told.0, told.2);
+      done = λ zero. let reported = ends.done zero in (_, _, model, reported.0, reported.2);
       quiet = ends.quiet;
       kept = ends.kept;
-      refused = λ bad. let told = ends.refused bad in (told.0, (_, _, model, told.1.0), told.2);
+      refused = λ bad. let reported = ends.refused bad in (reported.0, (_, _, model, reported.1.0), reported.2);
     }
 
 pub returns-clause-opened : goal.returns-clause-opened

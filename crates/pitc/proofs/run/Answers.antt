@@ -15,5 +15,5 @@ returns-clause-ends g c =
       done = ends.done;
       quiet = ends.quiet;
       kept = ends.kept;
-      refused = λ bad. let told = ends.refused bad in (told.0, rw all at told.1, told.2);
+      refused = λ bad. let reported = ends.refused bad in (reported.0, rw all at reported.1, reported.2);
     }

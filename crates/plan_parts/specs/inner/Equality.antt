@@ -4,15 +4,15 @@ use Rattle.std.proofs.lemmas.Bool.{and_parts, eqb-true}
 use Rattle.std.specs.Bool.{Decides, one_answer}
 use Rattle.std.specs.Cmp.{IsEquivalence}
 use Rattle.std.specs.Cmp.Lexicographic.{pointwise_decides}
-use Rattle.plan_parts.specs.formulas.BandsKept.{band_eq, bands_eq}
+use Rattle.plan_parts.specs.formulas.BandsInvariant.{band_eq, bands_eq}
 use Rattle.plan_parts.specs.declared.formulas.band.Band.{Band}
 
 -- a test that decides equality is an equivalence
 pub equivalence : {K : Type 0} {E : K → K → Bool} → ((x y : K) → Decides (E x y) (x ≡ y)) → IsEquivalence E
-equivalence {K} {E} told = record {
-  refl = λ x. (told x x).1 refl;
-  symm = λ x y. one_answer (E x y) (E y x) (told x y) ((λ h. sym ((told y x).0 h)), (λ e. (told y x).1 (sym e)));
-  congr = λ x y z h. ap (λ w. E w z) ((told x y).0 h);
+equivalence {K} {E} reported = record {
+  refl = λ x. (reported x x).1 refl;
+  symm = λ x y. one_answer (E x y) (E y x) (reported x y) ((λ h. sym ((reported y x).0 h)), (λ e. (reported y x).1 (sym e)));
+  congr = λ x y z h. ap (λ w. E w z) ((reported x y).0 h);
 }
 
 -- a test decides equality if it implies equality and holds for equal things
@@ -30,8 +30,8 @@ band_own : (b : Band) → band_eq b b ≡ true
 band_own b =
     ap (λ start. start && (b.recovery == b.recovery)) (eq-eqb b.start b.start refl) ∙ eq-eqb b.recovery b.recovery refl
 
-pub bands_told : (bands others : List Band) → Decides (bands_eq bands others) (bands ≡ others)
-bands_told = pointwise_decides (decides band_eq bands_same band_own)
+pub bands_decided : (bands others : List Band) → Decides (bands_eq bands others) (bands ≡ others)
+bands_decided = pointwise_decides (decides band_eq bands_same band_own)
 
 pub bands_equivalence : IsEquivalence bands_eq
-bands_equivalence = equivalence bands_told
+bands_equivalence = equivalence bands_decided

@@ -1,7 +1,7 @@
 -- The parts of a plan, from its fields.
 use Rattle.plan_parts.specs.declared.plan.Plan.TheInside.{Inside}
 use Rattle.plan_parts.specs.Plan.{PlanParts}
-use Rattle.plan_parts.specs.PlanKept.{IsPlan}
+use Rattle.plan_parts.specs.PlanInvariant.{IsPlan}
 
 abbrev pub parts_of : Inside → PlanParts
 parts_of p = record {

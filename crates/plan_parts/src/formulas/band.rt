@@ -2,7 +2,7 @@
 
 ghost use Rattle.std.specs.Prelude.{◌≡◌, ◌≤◌, ◌↔◌, IsTrue, IsSome, IfSome, IfOk, All, true, length, take, nat_le, filter};
 ghost use Rattle.plan_parts.specs.formulas.Bands.{recovery_at};
-ghost use Rattle.plan_parts.specs.formulas.BandsKept.{IsBand, AreBands, starts_rise};
+ghost use Rattle.plan_parts.specs.formulas.BandsInvariant.{IsBand, AreBands, starts_rise};
 ghost use Rattle.plan_parts.specs.declared.ranges.TheConstants.{MAX_RECOVERY};
 
 use crate::ranges::{MAX_BANDS, MAX_GRADE, MAX_RECOVERY};
@@ -30,7 +30,7 @@ impl Model for Bands {
 
     ghost Value = { List Band };
 
-    ghost use Rattle.plan_parts.specs.formulas.BandsKept.{AreBands};
+    ghost use Rattle.plan_parts.specs.formulas.BandsInvariant.{AreBands};
 
     ghost view = { λ b. b.bands.items };
 
@@ -38,10 +38,10 @@ impl Model for Bands {
 }
 
 impl Bands {
-    /// Makes bands from this list. Returns `None` if there are not 1 to 16, a band is out of range, or a band does not begin above the band
-    /// before it.
+    /// Makes bands from this list. Returns `None` if there are not 1 to 16, a band is out of range, or a band does not begin above
+    /// the band before it.
     pub fn new(bands: Vec<Band>) -> Option<Bands>
-        ensures ruled { IsSome result ↔ AreBands bands.items }
+        ensures formula_in_range { IsSome result ↔ AreBands bands.items }
         ensures value { IfSome result (λ b. b ≡ bands.items) }
     {
         let count = bands.len();
@@ -97,7 +97,7 @@ pub fn starts_rise(bands: &[Band]) -> bool
 impl PartialEq for Bands {
     ghost use Rattle.std.specs.Prelude.{◌≡◌, ◌↔◌, IsTrue};
     ghost use Rattle.std.specs.Cmp.{partial_equiv_from_equiv};
-    ghost use Rattle.plan_parts.specs.formulas.BandsKept.{bands_eq};
+    ghost use Rattle.plan_parts.specs.formulas.BandsInvariant.{bands_eq};
     ghost use Rattle.plan_parts.specs.inner.Equality.{bands_equivalence};
 
     ghost eq = { bands_eq };

@@ -1,8 +1,8 @@
-//! A destination: a formula, and the stored closure that values blocks by it.
+//! A destination: a formula, and a stored closure that values blocks by the formula.
 
 ghost use Rattle.std.specs.Prelude.{◌≡◌, ℤ};
-ghost use Rattle.plan_parts.specs.formulas.Formula.{IsRuled};
-ghost use Rattle.plan_parts.specs.inner.RuledOnce.{IsRuled-prop};
+ghost use Rattle.plan_parts.specs.formulas.Formula.{IsFormulaInRange};
+ghost use Rattle.plan_parts.specs.inner.InRangeOnce.{IsFormulaInRange-prop};
 ghost use Rattle.plan_parts.specs.formulas.Worth.{worth};
 ghost use Rattle.plan_parts.specs.formulas.WorthRange.{IsWorth};
 ghost use Rattle.plan_parts.specs.declared.block.Block.{Block as ABlock};
@@ -13,13 +13,13 @@ use crate::formulas::formula::Formula;
 /// A closure on the heap that values blocks. It can move to another thread and be called by several threads at once.
 pub type Valuer = Box<dyn Fn(Block) -> i128 + Send + Sync>;
 
-/// A destination: its formula, and a closure that can be called for every block and returns the formula's worth. With both it
-/// stores the fact that this is so.
+/// A destination: its formula, and a closure that can be called for every block and returns the formula's worth. It also stores the
+/// proof of this fact.
 #[derive(Drop)]
 pub struct Destination {
     formula: Formula,
     valuer: Valuer,
-    ghost ruled: { IsRuled formula } by { IsRuled-prop formula },
+    ghost formula_in_range: { IsFormulaInRange formula } by { IsFormulaInRange-prop formula },
     ghost callable: { Valuer.IsAlwaysCallable valuer },
     ghost answers: { (b : ABlock) (r : ℤ) → Valuer.post valuer b r → r ≡ worth formula b },
 }
@@ -31,7 +31,7 @@ impl Destination {
     /// Makes a destination with this formula and this closure, which must accept every block and return the formula's
     /// worth. Allocates no memory.
     pub fn new(formula: Formula, valuer: Valuer) -> Destination
-        requires ruled { IsRuled formula }
+        requires formula_in_range { IsFormulaInRange formula }
         requires callable { Valuer.IsAlwaysCallable valuer }
         requires answers { (b : ABlock) (r : ℤ) → Valuer.post valuer b r → r ≡ worth formula b }
         ensures { formula_of result ≡ formula }
@@ -52,7 +52,7 @@ impl Destination {
     /// Returns the formula.
     pub fn formula(&self) -> &Formula
         ensures value { result.now ≡ formula_of self.now }
-        ensures ruled { IsRuled result.now }
+        ensures formula_in_range { IsFormulaInRange result.now }
     {
         &self.formula
     }

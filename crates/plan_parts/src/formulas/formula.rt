@@ -1,7 +1,7 @@
 //! How a destination values a block.
 
 ghost use Rattle.std.specs.Prelude.{◌≡◌, IfOk, OnErr};
-ghost use Rattle.plan_parts.specs.formulas.Formula.{IsRuled};
+ghost use Rattle.plan_parts.specs.formulas.Formula.{IsFormulaInRange};
 ghost use Rattle.plan_parts.specs.formulas.FormulaCopy.{HasBands};
 ghost use Rattle.plan_parts.specs.formulas.Worth.{worth};
 ghost use Rattle.plan_parts.specs.formulas.WorthRange.{IsWorth};
@@ -64,7 +64,7 @@ impl Formula {
 
     /// Returns the worth of a block by this formula, in cents.
     pub fn worth(&self, block: Block) -> i128
-        requires { IsRuled self.now }
+        requires { IsFormulaInRange self.now }
         ensures value { result ≡ worth self.now block }
         ensures in_range { IsWorth result }
     {

@@ -13,7 +13,7 @@ pub struct Past<T> {
     links: Links<T>,
 }
 
-// No item, or one item after others.
+// No item, or an item after others.
 #[derive(Drop)]
 enum Links<T> {
     Start,
@@ -39,7 +39,7 @@ impl<T> Past<T> {
         }
     }
 
-    /// Returns these items and one more.
+    /// Returns these items, followed by `item`.
     pub fn with(&self, item: &T) -> Past<T>
         ensures { result ≡ self.now ++ item.now ∷ [] }
     {
@@ -50,7 +50,7 @@ impl<T> Past<T> {
 }
 
 impl<T> Links<T> {
-    // Returns these items and one more.
+    // Returns these items, followed by `item`.
     fn with(&self, item: &T) -> Links<T>
         ensures { items_in result ≡ items_in self.now ++ item.now ∷ [] }
     {

@@ -1,10 +1,10 @@
--- Where all zones have one cone, lists of predecessors are closed.
+-- Lists of predecessors are closed if all zones have the same cone.
 use Rattle.std.proofs.Common.{◌≡◌, ℕ, ◌-◌, ◌<◌, ◌≤◌, ◌&&◌, zero, suc, Bool, true, List, [], ◌∷◌, Some, All, length, get_or, slice_get, nat_le, nat_lt, subst, sym, ap, ◌∙◌, arith, ⊎_elim}
 use Rattle.std.proofs.lemmas.Bool.{and_parts, cases_lt, le-leb, leb-true, lt-ltb, ltb-true}
 use Rattle.std.proofs.lemmas.List.{get_or-map, length-map}
 use Rattle.std.proofs.lemmas.Option.{slice_get-get_or}
 use Rattle.plan_parts.specs.Plan.{PlanParts}
-use Rattle.plan_parts.specs.PlanKept.{IsCone}
+use Rattle.plan_parts.specs.PlanInvariant.{IsCone}
 use Rattle.plan_parts.specs.declared.block.Block.{Block}
 use Rattle.plan_parts.specs.declared.cone.Cone.{Cone}
 use Rattle.precedence.specs.Cone.{above, is_above, places_where, preds}
@@ -39,7 +39,7 @@ module _ (plan : PlanParts) (blocks : List Block) (cone : Cone) (is : IsCone con
       get_or-map (λ (low : Block). above plan.grid (slice_get plan.cones low.zone) blocks low) blocks b any [] lt
       ∙ ap (λ o. above plan.grid o blocks (at b)) (slice_get-get_or plan.cones zone cone there ∙ ap (λ (c : Cone). Some c) (one zone cone there))
 
-  -- an arc is a block above another one
+  -- an arc leads from one block to another above it
   record IsAbove (b c : ℕ) : Type 0 where
     low : b < length blocks
     high : c < length blocks
@@ -70,7 +70,7 @@ module _ (plan : PlanParts) (blocks : List Block) (cone : Cone) (is : IsCone con
       true_contains (get_or lists b []) c
       (ap (λ list. is_in list c) (list_is b is_above_it.low) ∙ told_where (above_in (at b)) c blocks any is_above_it.high ∙ yes)
 
-  -- along a way the last block lies inside the slopes above the first
+  -- along a path, the last block is inside the slopes above the first
   record IsFarAbove (b c : ℕ) : Type 0 where
     low : b < length blocks
     high : c < length blocks
@@ -104,21 +104,3 @@ pub closed : (plan : PlanParts) (blocks : List Block) (cone : Cone) → IsCone c
     → HasZones plan blocks → AreClosed (preds plan blocks)
 closed plan [] cone is one zones b c d n all own way = absurd (let lt = in_list (preds plan []) b c all in omega arith)
 closed plan (x ∷ xs) cone is one zones b c d n all own way = closed_at plan (x ∷ xs) cone is one zones x b c d n all own way
-
--- zones with one table have one cone
-pub one_table : (plan : PlanParts) (extents : List Extent) (tables : List ConeTable) (of_zone : List ℕ) (blocks : List Block)
-    → HasTables plan.grid plan.cones extents tables of_zone → All IsCone plan.cones → length tables ≤ 1 → HasZones plan blocks
-    → AreClosed (preds plan blocks)
-one_table plan extents tables of_zone [] has cones few zones = λ b c d n all own way. absurd (let lt = in_list (preds plan []) b c all in omega arith)
-one_table plan extents [] of_zone (x ∷ xs) has cones few zones =
-    let there : x.zone < length plan.cones = zones 0 x (omega arith) in
-    absurd (let none = has.below x.zone 0 (omega (arith, there, has.zones)) in omega arith)
-one_table plan extents (t ∷ ts) of_zone (x ∷ xs) has cones few zones =
-    let there : x.zone < length plan.cones = zones 0 x (omega arith) in
-    closed plan (x ∷ xs) t.cone (subst IsCone (own x.zone t.cone there) (cones x.zone t.cone there)) own zones
-  where
-    own : (z : ℕ) (d : Cone) → z < length plan.cones → get_or plan.cones z d ≡ t.cone
-    own z d lt =
-        let below = has.below z 0 (omega (arith, lt, has.zones)) in
-        let first : get_or of_zone z 0 ≡ 0 = omega (arith, below, few) in
-        sym (has.same z d t lt) ∙ ap (λ n. (get_or (t ∷ ts) n t).cone) first

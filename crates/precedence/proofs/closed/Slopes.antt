@@ -1,9 +1,9 @@
--- What lies in a cone above a block of the cone lies in the cone itself, but for the number of benches.
+-- A block in the cone above a block of a cone is itself in that cone, except for the number of benches.
 use Rattle.std.proofs.Common.{◌≡◌, ℕ, ◌+◌, ◌-◌, ◌*◌, ◌<◌, ◌≤◌, Bool, true, false, nat_lt, refl, sym, ap, subst, ◌∙◌, arith, ⊎_elim, if◌then◌else◌}
 use Rattle.std.specs.Int.{abs_diff}
 use Rattle.std.proofs.Math.Nat.{mul-le-mul, mul-le-mul_left, mul-le-mul_right, le_of_mul-le-mul_left}
 use Rattle.std.proofs.lemmas.Bool.{cases_lt, leb-true, le-leb, le-ltb, lt-ltb}
-use Rattle.plan_parts.specs.PlanKept.{IsCone}
+use Rattle.plan_parts.specs.PlanInvariant.{IsCone}
 use Rattle.plan_parts.specs.declared.block.Block.{Block}
 use Rattle.plan_parts.specs.declared.cone.Cone.{Cone}
 use Rattle.plan_parts.specs.declared.grid.Grid.{Grid}
@@ -21,7 +21,7 @@ two_products s t = ⊎_elim
     by_gap : (s t k : ℕ) → t ≡ s + k → 2 * (s * t) ≤ s * s + t * t
     by_gap s t k is = subst (λ t. 2 * (s * t) ≤ s * s + t * t) (sym is) (omega arith)
 
--- of two numbers the one with the smaller square is not greater
+-- the number with the smaller square is not larger
 less_by_square : (m n : ℕ) → m * m ≤ n * n → m ≤ n
 less_by_square m n le = ⊎_elim
     (λ more.
@@ -31,7 +31,7 @@ less_by_square m n le = ⊎_elim
     (λ no_more. no_more)
     (cases_lt n m)
 
--- lengths along two ways, one behind the other
+-- lengths along two paths, one after the other
 module _ (a b c d e f : ℕ) (one : square a + square b ≤ square e) (other : square c + square d ≤ square f) where
   crossed : a * c + b * d ≤ e * f
   crossed = less_by_square (a * c + b * d) (e * f)
@@ -69,7 +69,7 @@ module _ (up down low high : ℕ) where
   unfolding far
   far_down le = let d : abs_diff low high ≡ low - high = omega arith in λ j. d j * downward le j
 
--- no way is shorter through a third
+-- no path through a third point is shorter
 pub through : (up down low mid high : ℕ) → far up down low high ≤ far up down low mid + far up down mid high
 through up down low mid high = ⊎_elim
     (λ first. ⊎_elim
@@ -106,9 +106,9 @@ through up down low mid high = ⊎_elim
     (cases_lt mid high))
     (cases_lt low mid)
 
--- ---- slopes of different sides, with the same numbers below
+-- ---- slopes on different sides, with the same numbers below
 
--- the test of slopes in common numbers: o and n are the runs of the other sides
+-- the test of slopes in common numbers: o and n are the runs of the slopes on the other sides
 module _ (sx sy sz p q r s o n dx dy dz : ℕ) where
   abbrev left : ℕ
   left = square (dx * (sx * p * s)) + square (dy * (sy * r * q))
@@ -158,7 +158,7 @@ module _ (grid : Grid) (cone : Cone) where
   abbrev rise : ℕ
   rise = grid.z.size * along * across
 
-  -- by the sides where the other block lies
+  -- the test by the sides of the other block
   abbrev is_within : Bool → Bool → ℕ → ℕ → ℕ → Bool
   is_within is_east is_north dx dy dz = is_within_slopes grid (if is_east then cone.east else cone.west) (if is_north then cone.north else cone.south) dx dy dz
 
@@ -183,7 +183,7 @@ module _ (grid : Grid) (cone : Cone) where
     unfolding far weight
     far_is up down low high = refl
 
-    -- `high` lies inside the slopes above `low`, however many benches
+    -- `high` is inside the slopes above `low`, whatever the number of benches
     abbrev pub is_inside : Block → Block → Bool
     is_inside low high = is_within (nat_lt low.x high.x) (nat_lt low.y high.y) (abs_diff low.x high.x) (abs_diff low.y high.y) (high.z - low.z)
 

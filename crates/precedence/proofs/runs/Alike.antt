@@ -1,4 +1,4 @@
--- Blocks that follow one another, and where codes from a target on begin among them.
+-- Blocks that follow one another, and the start of the codes from a target on among them.
 use Rattle.std.proofs.Common.{◌≡◌, ℕ, zero, suc, ◌+◌, ◌-◌, ◌<◌, ◌≤◌, List, length, get_or, ap, ◌∙◌, arith, ⊎_elim}
 use Rattle.std.specs.List.Sorted.{IsStrictlyIncreasing}
 use Rattle.std.proofs.lemmas.Bool.{cases_lt}
@@ -33,7 +33,7 @@ module _ (codes of_zone zones : List ℕ) where
 pub codes_along : (codes of_zone zones alike : List ℕ) → AreAlike codes of_zone zones alike → FollowAlong codes alike
 codes_along codes of_zone zones alike all = (all.each, λ id lt j less. let h = all.follow id lt j less in (h.within, h.code))
 
--- no two identifiers have one code
+-- no two identifiers have the same code
 pub one_code : (codes : List ℕ) (a b : ℕ) → IsStrictlyIncreasing codes → a < length codes → b < length codes
     → get_or codes a 0 ≡ get_or codes b 0 → a ≡ b
 one_code codes a b rising in_a in_b same = ⊎_elim
@@ -47,7 +47,7 @@ one_code codes a b rising in_a in_b same = ⊎_elim
 -- Codes follow one another from an identifier on.
 module _ (codes : List ℕ) (rising : IsStrictlyIncreasing codes) (first count : ℕ) (lt : first < length codes)
     (along : FollowFrom codes first count) where
-  -- a block whose code is less than `count` further than the first one's is one of them
+  -- a block with a code less than `count` above the first one's code is one of them
   pub is_one : (y : ℕ) → y < length codes → get_or codes first 0 ≤ get_or codes y 0 → get_or codes y 0 < get_or codes first 0 + count
       → y ≡ first + (get_or codes y 0 - get_or codes first 0)
   is_one y within low up =
@@ -76,6 +76,6 @@ module _ (codes : List ℕ) (rising : IsStrictlyIncreasing codes) (first count :
       (λ past. omega (arith, past, start_within target codes))
       (cases_lt (first + suc k) (length codes))
 
-  -- where codes from a target on begin that is no more than `count` further than the first one
+  -- the start of the codes from a target on that is at most `count` above the first code
   pub start_is : (target k : ℕ) → target ≡ get_or codes first 0 + k → k ≤ count → start_of target codes ≡ first + k
   start_is target k at le = omega (arith, low target k at le, up target k at le)

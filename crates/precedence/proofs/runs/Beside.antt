@@ -9,11 +9,11 @@ use Rattle.precedence.specs.inner.Rows.{is_in_row, is_in_rows}
 use Rattle.precedence.specs.declared.cones.cone_rows.Row.{Row}
 use Rattle.precedence.specs.declared.places.span.Span.{Span}
 
--- the code of a block tells its index along x
+-- a block's code has its index along x
 pub x_is : (b : Block) → x_of (place_code b) ≡ b.x
 x_is b = omega (arith, b.x_in_grid)
 
--- a span of a part of the blocks has each of them
+-- a span of a part of the blocks covers each of them
 pub in_span : (span : Span) (blocks : List Block) (start end m : ℕ) → start ≤ m → m < end → end ≤ length blocks
     → ((k : ℕ) (d : Block) → k < length (take (end - start) (drop start blocks))
     → (span.west ≤ (get_or (take (end - start) (drop start blocks)) k d).x) × ((get_or (take (end - start) (drop start blocks)) k d).x ≤ span.east))
@@ -36,7 +36,7 @@ in_span span (b ∷ bs) start end m le lt within held =
       east = omega (arith, h.1, x_at, x);
     }
 
--- what lies in no row that is no wider lies in none of such rows
+-- a code in no row that is no wider is in none of these rows
 pub in_no_rows : (west east from code : ℕ) (rows : List Row) → All (IsNoWider west east) rows
     → ((row : Row) → IsNoWider west east row → is_in_row from row code ≡ false) → is_in_rows from rows code ≡ false
 in_no_rows west east from code [] all none = refl

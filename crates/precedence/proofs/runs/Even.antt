@@ -1,4 +1,4 @@
--- Blocks that follow one another, and of which each has one more in a row than the one before it, or one fewer, or as many.
+-- Consecutive blocks whose numbers of blocks in a row grow by 1, shrink by 1 or stay equal.
 use Rattle.std.proofs.Common.{◌≡◌, ℕ, zero, suc, ◌+◌, ◌*◌, ◌<◌, ◌≤◌, Bool, true, false, List, length, take, get_or, sym, ap, ◌∙◌, arith, if◌then◌else◌}
 use Rattle.std.specs.Prelude.{sum_by}
 use Rattle.std.specs.List.Sorted.{IsStrictlyIncreasing}
@@ -8,7 +8,7 @@ use Rattle.precedence.specs.inner.Rows.{start_of}
 use Rattle.precedence.specs.declared.cones.cone_rows.Row.{Row}
 use Rattle.precedence.proofs.runs.Starts.{start_grows}
 
--- a count that goes on evenly: one step more adds twice the last one to the number of counts times the first and the last
+-- an even count: the next step adds twice the last count to the number of counts times the sum of the first and last
 step : (rise fall : Bool) (n c a b first past : ℕ) → c + first ≡ past
     → a + (first + (if fall then n else 0)) ≡ past + (if rise then n else 0)
     → b + (first + (if fall then suc n else 0)) ≡ past + (if rise then suc n else 0)
@@ -30,7 +30,7 @@ step false true n c a b first past hc ha hb =
     let bc : b + n + 1 ≡ c = omega arith in
     omega (arith, ac, bc, ap (λ m. n * m) ac, ap (λ m. n * m) bc)
 
--- a block and the n behind it follow one another, and so do where the row's runs begin and end for them, or stay
+-- a block and the n after it follow one another, and the start and end of the row's range move by 1 for each, or stay
 pub record AreEven (codes own : List ℕ) (row : Row) (k n first past : ℕ) (first_moves past_moves : Bool) : Type 0 where
   pub rising : IsStrictlyIncreasing codes
   pub within : k + n < length own
@@ -40,7 +40,7 @@ pub record AreEven (codes own : List ℕ) (row : Row) (k n first past : ℕ) (fi
 
 module _ (codes own : List ℕ) (row : Row) (k n first past : ℕ) (first_moves past_moves : Bool)
     (even : AreEven codes own row k n first past first_moves past_moves) where
-  -- where the row's run begins and ends for each of them
+  -- the start and end of the row's range for each of them
   pub begins : (t : ℕ) → t ≤ n → start_of (get_or own (k + t) 0 + row.first) codes ≡ first + (if first_moves then t else 0)
   begins t le =
       let at : get_or own (k + t) 0 + row.first ≡ (get_or own k 0 + row.first) + t = omega (arith, even.follow t le) in
@@ -60,7 +60,7 @@ module _ (codes own : List ℕ) (row : Row) (k n first past : ℕ) (first_moves 
         start_grows (get_or own (k + t) 0 + row.first) (get_or own (k + t) 0 + row.past) codes even.rising (omega (arith, row.in_order)),
       )
 
-  -- what it has for each
+  -- the number of blocks for each
   has : (t : ℕ) → t ≤ n
       → count_in codes row (get_or own (k + t) 0) + (first + (if first_moves then t else 0)) ≡ past + (if past_moves then t else 0)
   has t le = omega (arith, begins t le, ends t le, no_later t le)
@@ -76,7 +76,7 @@ module _ (codes own : List ℕ) (row : Row) (k n first past : ℕ) (first_moves 
       none false true at h = omega (arith, at, h)
       none false false at h = omega (arith, at, h)
 
-  -- and for all
+  -- the number of blocks for all
   sum_up_to : (m : ℕ) → m ≤ n → 2 * sum_by (count_in codes row) (take (k + m + 1) own)
       ≡ 2 * sum_by (count_in codes row) (take k own)
       + (m + 1) * (count_in codes row (get_or own k 0) + count_in codes row (get_or own (k + m) 0))

@@ -1,4 +1,4 @@
--- The row in which a code lies.
+-- The row that contains a code.
 use Rattle.std.proofs.Common.{◌≡◌, ℕ, zero, suc, ◌+◌, ◌-◌, ◌<◌, ◌≤◌, ◌&&◌, ◌||◌, true, false, List, [], ◌∷◌, length, drop, get_or, nat_lt, nat_le, sym, ap, subst, ◌∙◌, arith, ⊎_elim}
 use Rattle.std.specs.List.Sorted.{IsStrictlyIncreasing}
 use Rattle.std.proofs.Math.Bool.{or-true}
@@ -16,7 +16,7 @@ in_some_row from c zero (row ∷ rows) d lt is = ap (λ b. b || is_in_rows from 
 in_some_row from c (suc i) (row ∷ rows) d lt is =
     ap (λ b. is_in_row from row c || b) (in_some_row from c i rows d (omega arith) is) ∙ or-true (is_in_row from row c)
 
--- a code lies in a row
+-- a code is in a row
 pub in_this_row : (from c i : ℕ) (rows : List Row) (row : Row) → i < length rows → row ≡ get_or rows i row → from + row.first ≤ c → c < from + row.past
     → is_in_rows from rows c ≡ true
 in_this_row from c i rows row lt at begun less =
@@ -24,21 +24,11 @@ in_this_row from c i rows row lt at begun less =
     let up : nat_lt c (from + row.past) ≡ true = lt-ltb _ _ less in
     in_some_row from c i rows row lt (subst (λ (r : Row). is_in_row from r c ≡ true) at (λ j. low j && up j))
 
--- the codes from its own on are in the row, up to where that is past
-pub in_the_row : (from : ℕ) (codes : List ℕ) (rows : List Row) (i pred n : ℕ) (row : Row) → IsStrictlyIncreasing codes → i < length rows → row ≡ get_or rows i row
-    → from + row.first ≤ get_or codes pred 0 → pred + n ≤ start_of (from + row.past) codes
-    → (k : ℕ) → k < n → is_in_rows from rows (get_or codes (pred + k) 0) ≡ true
-in_the_row from codes rows i pred n row rising lt at begun few k less =
-    let there = start_within (from + row.past) codes in
-    in_this_row from (get_or codes (pred + k) 0) i rows row lt at
-    (omega (arith, begun, no_less codes pred (pred + k) rising (omega arith) (omega arith)))
-    (start_before_in (from + row.past) (pred + k) codes (omega arith))
-
--- a row that is read
+-- a row by its index
 pub row_is : (rows : List Row) (i : ℕ) (row : Row) → i < length rows → row ≡ get_or rows i row → (d : Row) → get_or rows i d ≡ row
 row_is rows i row lt at d = get_or_default rows i d row lt ∙ sym at
 
--- where the rows are past
+-- the ends of the rows
 pub long : (rows : List Row) → length (pasts rows) ≡ length rows
 long rows = length-map rows (λ (row : Row). row.past)
 
@@ -52,7 +42,7 @@ past_some rows high i apart lt = first rows lt
     first [] none = absurd (omega arith)
     first (r ∷ rs) some = omega (arith, (apart_at 0 rows high i r apart lt).0, past_is rows i r lt)
 
--- a code lies in none where the rows before one are past at it, and that has not begun
+-- a code is in no row, if the rows before one end at it or before and that row starts after it
 pub in_none : (from c high i : ℕ) (rows : List Row) → LieApart 0 rows high → i ≤ length rows → ((k : ℕ) → k < i → from + get_or (pasts rows) k 0 ≤ c)
     → (i < length rows → (d : Row) → c < from + (get_or rows i d).first) → is_in_rows from rows c ≡ false
 in_none from c high i rows apart inside past before =
@@ -74,7 +64,7 @@ module _ (from code high : ℕ) (rows : List Row) (apart : LieApart 0 rows high)
   abbrev number : ℕ
   number = start_of (code - from + 1) (pasts rows)
 
-  -- the row is not past at the code
+  -- the row does not end before the code
   pub not_past : (i : ℕ) (row : Row) → i ≡ number → i < length rows → row ≡ get_or rows i row → from + row.first ≤ code
       → code < from + row.past
   not_past i row is lt at begun =
@@ -85,8 +75,23 @@ module _ (from code high : ℕ) (rows : List Row) (apart : LieApart 0 rows high)
         ap (λ (r : Row). r.past) at,
       )
 
-  -- each row before it is
+  -- each row before it does
   pub before_past : (k : ℕ) → k < number → from + get_or (pasts rows) k 0 ≤ code
   before_past k lt =
       let within : k < length rows = omega (arith, start_within (code - from + 1) (pasts rows), long rows) in
       omega (arith, past_some rows high k apart within, start_before_in (code - from + 1) k (pasts rows) lt)
+
+-- a row has codes
+pub some_codes : (rows : List Row) (high i : ℕ) (row : Row) → LieApart 0 rows high → i < length rows → row ≡ get_or rows i row → row.first < row.past
+some_codes rows high i row apart lt at =
+    let some = (apart_at 0 rows high i row apart lt).0 in
+    omega (arith, some, ap (λ (r : Row). r.first) at, ap (λ (r : Row). r.past) at)
+
+module _ (from code high i : ℕ) (rows : List Row) (apart : LieApart 0 rows high) (is : i ≡ start_of (code - from + 1) (pasts rows)) where
+  pub above_within : i ≤ length rows
+  above_within = omega (arith, is, start_within (code - from + 1) (pasts rows), long rows)
+
+  pub none_above : (c : ℕ) → code ≤ c → (i < length rows → (d : Row) → c < from + (get_or rows i d).first) → is_in_rows from rows c ≡ false
+  none_above c le before =
+      in_none from c high i rows apart above_within
+      (λ k lt. let past = before_past from code high rows apart k (omega (arith, is, lt)) in omega (arith, past, le)) before

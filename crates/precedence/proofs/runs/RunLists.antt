@@ -1,4 +1,4 @@
--- Runs that are put together.
+-- Lists of ranges.
 use Rattle.std.proofs.Common.{◌≡◌, ℕ, zero, suc, ◌+◌, ◌-◌, ◌<◌, ◌≤◌, true, List, [], ◌∷◌, ◌++◌, length, map, get_or, refl, sym, ap, ◌∙◌, arith, append-nil}
 use Rattle.std.specs.List.{range_with_len}
 use Rattle.std.proofs.lemmas.Grind.{flat_map-append}
@@ -6,26 +6,26 @@ use Rattle.std.proofs.lemmas.List.Concat.{flat_map-cons}
 use Rattle.std.proofs.lemmas.List.FromFn.{get_or-range_with_len, length-range_with_len}
 use Rattle.precedence.specs.IdRuns.{ids_of, ids_of_run, is_in}
 use Rattle.precedence.specs.declared.lists.id_run.IdRun.{IdRun}
-use Rattle.precedence.proofs.enough.Walks.{at_in, in_left, in_right}
+use Rattle.precedence.proofs.Listed.{at_in, in_left, in_right}
 
--- one more run
+-- the next range
 pub ids_push : (runs : List IdRun) (run : IdRun) → ids_of (runs ++ run ∷ []) ≡ ids_of runs ++ ids_of_run run
 ids_push runs run = flat_map-append ids_of_run runs (run ∷ []) ∙ ap (λ ids. ids_of runs ++ ids) (append-nil (ids_of_run run))
 
--- nothing lies between
+-- an empty range adds nothing
 pub no_run : (first past : ℕ) (ids : List ℕ) → past ≤ first → ids ++ range_with_len first (past - first) ≡ ids
 no_run first past ids le =
     let none : past - first ≡ 0 = omega arith in
     ap (λ n. ids ++ range_with_len first n) none ∙ append-nil ids
 
--- a run whose identifiers are so much greater
+-- a range of larger identifiers
 pub range_moved : (first by n : ℕ) → range_with_len (first + by) n ≡ map (λ id. id + by) (range_with_len first n)
 range_moved first by zero = refl
 range_moved first by (suc n) =
     let next : (first + by) + 1 ≡ (first + 1) + by = omega arith in
     ap (λ ids. (first + by) ∷ ids) (ap (λ k. range_with_len k n) next ∙ range_moved (first + 1) by n)
 
--- an identifier of a run
+-- an identifier of a range
 pub in_runs : (runs : List IdRun) (i k : ℕ) (run : IdRun) → i < length runs → run ≡ get_or runs i run → k < run.len
     → is_in (ids_of runs) (run.first + k) ≡ true
 in_runs [] i k run lt is less = absurd (omega (arith, lt))

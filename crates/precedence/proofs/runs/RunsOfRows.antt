@@ -1,4 +1,4 @@
--- The identifiers in rows are the runs of the rows, one after the other.
+-- The identifiers in rows are the ranges of the rows, one after the other.
 use Rattle.std.proofs.Common.{◌≡◌, ℕ, zero, suc, ◌+◌, ◌-◌, ◌<◌, ◌≤◌, ◌&&◌, ◌||◌, Bool, true, false, List, [], ◌∷◌, ◌++◌, filter, length, drop, get_or, nat_lt, nat_le, max, refl, sym, ap, subst, ◌∙◌, arith, length-drop, ⊎_elim, if◌then◌else◌}
 use Rattle.std.specs.List.{range_with_len}
 use Rattle.std.specs.List.Sorted.{IsStrictlyIncreasing}
@@ -21,7 +21,7 @@ range_more a (suc n) k is =
     let more : suc n + 1 ≡ suc (n + 1) = omega arith in
     ap (range_with_len a) more ∙ ap (λ xs. a ∷ xs) (range_more (a + 1) n k (omega arith))
 
--- what passes a test is a run and, behind it, what passes another test
+-- the numbers that pass a test are a range, followed by the numbers that pass another test
 filter_run : (p q : ℕ → Bool) (a b n m : ℕ) → ((k : ℕ) → k < a → p k ≡ false) → ((k : ℕ) → a ≤ k → k < b → p k ≡ true)
     → ((k : ℕ) → b ≤ k → k < n + m → p k ≡ q k) → ((k : ℕ) → k < b → q k ≡ false) → a ≤ b → b ≤ n + m
     → filter p (range_with_len n m) ≡ range_with_len (max a n) (b - max a n) ++ filter q (range_with_len n m)
@@ -53,9 +53,9 @@ filter_run p q a b n (suc m) before inside same none le long =
     ∙ ap (λ k. range_with_len (max a n) k ++ (if q n then n ∷ left else left)) (sym none_left))
     (cases_lt n b)
 
--- ---- codes outside of rows
+-- ---- codes outside rows
 
--- a code before all rows lies in none
+-- a code before all rows is in none
 pub before_rows : (from c low : ℕ) (rows : List Row) (high : ℕ) → LieApart low rows high → c < from + low → is_in_rows from rows c ≡ false
 before_rows from c low [] high h lt = refl
 before_rows from c low (row ∷ rows) high h lt =
@@ -63,12 +63,12 @@ before_rows from c low (row ∷ rows) high h lt =
     let rest = before_rows from c row.past rows high h.2 (omega (arith, h.0, h.1)) in
     λ j. (out j && nat_lt c (from + row.past)) || rest j
 
--- nor one behind a row in that row
+-- a code after a row is not in it
 behind_row : (from c : ℕ) (row : Row) → from + row.past ≤ c → is_in_row from row c ≡ false
 behind_row from c row le =
     ap (λ b. nat_le (from + row.first) c && b) (le-ltb c (from + row.past) le) ∙ and-false (nat_le (from + row.first) c)
 
--- so it lies in the others, or in none
+-- so the code is in the other rows, or in none
 pub skip : (from c n : ℕ) (rows : List Row) → n ≤ length rows → ((k : ℕ) → k < n → from + get_or (pasts rows) k 0 ≤ c)
     → is_in_rows from rows c ≡ is_in_rows from (drop n rows) c
 skip from c zero rows le past = refl
@@ -106,7 +106,7 @@ past_at rows i k = ap (λ ps. get_or ps k 0) (sym (drop-map (λ row. row.past) i
 pub no_rows : (from n : ℕ) (codes : List ℕ) → places_where (is_in_rows from []) n codes ≡ []
 no_rows from n codes = nowhere n codes
 
--- from a row to the next one that has codes, what is added is the row's run
+-- from a row to the next row that has codes, the row's range is appended
 module _ (from high : ℕ) (rows : List Row) (codes : List ℕ) (apart : LieApart 0 rows high) (rising : IsStrictlyIncreasing codes)
     (i j past : ℕ) (row : Row) (is : row ≡ get_or rows i row) (within : i < length rows) (later : i < j) (inside : j ≤ length rows)
     (found : start_of (from + row.past) codes ≤ past)
@@ -154,7 +154,7 @@ module _ (from high : ℕ) (rows : List Row) (codes : List ℕ) (apart : LieApar
       let up = lt-ltb _ _ (start_before_in (from + row.past) k codes lt) in
       λ t. (low t && up t) || is_in_rows from others (code k)
 
-  -- the blocks passed over lie in no row
+  -- the blocks passed over are in no row
   passed : (k : ℕ) → past_place ≤ k → k < past → k < length codes → in_all k ≡ in_rest k
   passed k le lt within =
       let lies = beside k le lt within in

@@ -1,4 +1,4 @@
--- Where numbers from a target on begin in a rising list.
+-- The start of the numbers from a target on, in an ascending list.
 use Rattle.std.proofs.Common.{◌≡◌, ℕ, zero, suc, ◌+◌, ◌<◌, ◌≤◌, Bool, List, length, take, get_or, min, nat_lt, count_by, sym, ap, ◌∙◌, arith, ⊎_elim}
 use Rattle.std.specs.List.{prefix_len}
 use Rattle.std.specs.List.Sorted.{IsStrictlyIncreasing}
@@ -8,7 +8,7 @@ use Rattle.std.proofs.lemmas.List.Kept.{AllPairs-from_increasing}
 use Rattle.std.proofs.lemmas.List.Sums.{count_by_more_no, count_by_more_yes, prefix_len-le-length, prefix_len_passes, prefix_len_stops}
 use Rattle.precedence.specs.inner.Rows.{start_of}
 
--- a later number is not less
+-- a later number is not smaller
 pub no_less : (cs : List ℕ) (a b : ℕ) → IsStrictlyIncreasing cs → a ≤ b → b < length cs → get_or cs a 0 ≤ get_or cs b 0
 no_less cs a b rising le lt = ⊎_elim
     (λ below. omega (arith, AllPairs-from_increasing cs rising a b 0 below lt))
@@ -18,7 +18,7 @@ no_less cs a b rising le lt = ⊎_elim
 pub start_within : (t : ℕ) (cs : List ℕ) → start_of t cs ≤ length cs
 start_within t cs = prefix_len-le-length (λ c. nat_lt c t) cs
 
--- a number before the place is below the target, and one from there on is not
+-- a number before the start is below the target, and every later number is not
 pub start_before_in : (t k : ℕ) (cs : List ℕ) → k < start_of t cs → get_or cs k 0 < t
 start_before_in t k cs lt = ltb-true _ _ (prefix_len_passes (λ c. nat_lt c t) cs k 0 (omega arith))
 
@@ -27,7 +27,7 @@ from_start t k cs rising le lt =
     let first = ltb-false _ _ (prefix_len_stops (λ c. nat_lt c t) cs 0 (omega arith)) in
     omega (arith, first, no_less cs (prefix_len (λ c. nat_lt c t) cs) k rising (omega arith) lt)
 
--- so a number below the target stands before the place, and one that is not stands from there on
+-- so a number below the target is before the start, and a number not below is at the start or later
 pub start_after : (t k : ℕ) (cs : List ℕ) → IsStrictlyIncreasing cs → k < length cs → get_or cs k 0 < t → k + 1 ≤ start_of t cs
 start_after t k cs rising lt below = ⊎_elim
     (λ less. omega arith)
@@ -48,7 +48,7 @@ start_grows t u cs rising le = ⊎_elim
     (λ no. no)
     (cases_lt (start_of u cs) (start_of t cs))
 
--- in a rising list k numbers are below the k-th
+-- in an ascending list, k numbers are below the number at index k
 pub count_below : (xs : List ℕ) (k : ℕ) → IsStrictlyIncreasing xs → k < length xs → count_by (λ c. nat_lt c (get_or xs k 0)) xs ≡ k
 count_below xs k rising within =
     ap (count_by below) (sym (take_all (length xs) xs (omega arith))) ∙ (let all = so_far (length xs) (omega arith) in omega arith)

@@ -1,4 +1,4 @@
--- Blocks that lie beside the rows of a cone along x.
+-- Blocks beside the rows of a cone along x.
 use Rattle.std.specs.Prelude.{◌≡◌, ℕ, ◌+◌, ◌*◌, ◌/◌, ◌%◌, ◌<◌, ◌≤◌, List, All, false, length, slice_index, slice_index_or, ◌⊎◌}
 use Rattle.plan_parts.specs.declared.ranges.TheConstants.{GRID_CELLS}
 use Rattle.precedence.specs.inner.Rows.{is_in_row}
@@ -8,25 +8,25 @@ use Rattle.precedence.specs.declared.places.spans.TheConstants.{CHUNK}
 use Rattle.precedence.specs.declared.cones.cone_rows.Row.{Row}
 use Rattle.precedence.specs.declared.cones.cone_rows.Widths.{Widths}
 
--- the index along x of the block with a code
+-- the index along x of the block with the code
 abbrev pub x_of : ℕ → ℕ
 x_of code = code % ROW
 
--- it lies in the span
+-- the code's index along x is in the span
 pub record IsInSpan (span : Span) (code : ℕ) : Type 0 where
   pub west : span.west ≤ x_of code
   pub east : x_of code ≤ span.east
 
--- each span has the blocks of one chunk
+-- each span covers the blocks of its chunk
 abbrev pub AreSpans : List Span → List ℕ → Type 0
 AreSpans spans codes = (k m : ℕ) (d : Span) → k < length spans → k * CHUNK ≤ m → m < k * CHUNK + CHUNK → m < length codes
     → IsInSpan (slice_index_or spans k d) (slice_index codes m)
 
--- how far the block straight above or below is, in the row of blocks that is nearest to where a row of a cone is past
+-- the distance to the cell straight above or below, in the row of blocks nearest to a cone row's end
 abbrev pub middle : ℕ → ℕ
 middle past = (past + ROW / 2) / ROW * ROW
 
--- a row of a cone reaches no further to the west and to the east
+-- a cone row reaches no further to the west and to the east
 pub record IsNoWider (west east : ℕ) (row : Row) : Type 0 where
   pub first : middle row.past ≤ row.first + west
   pub past : row.past ≤ middle row.past + east
@@ -34,12 +34,12 @@ pub record IsNoWider (west east : ℕ) (row : Row) : Type 0 where
 abbrev pub AreNoWider : Widths → List Row → Type 0
 AreNoWider widths rows = All (IsNoWider widths.west widths.east) rows
 
--- the block of a code lies west of `west`, or from `east` on
+-- the block with the code is west of `west`, or from `east` on
 pub record IsBeside (west east code : ℕ) : Type 0 where
   pub small : x_of code < GRID_CELLS
   pub out : (x_of code < west) ⊎ (east ≤ x_of code)
 
--- what lies beside lies in no row that is no wider, as seen from the code `from`
+-- no code beside is in a row that is no wider, as seen from the code `from`
 abbrev pub LeaveOut : (widths : Widths) (from west east : ℕ) → Type 0
 LeaveOut widths from west east = (row : Row) (code : ℕ) → IsNoWider widths.west widths.east row → IsBeside west east code
     → is_in_row from row code ≡ false

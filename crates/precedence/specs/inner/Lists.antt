@@ -1,4 +1,4 @@
--- Identifiers found by the codes of all blocks, and the lists of all blocks by the rows of their zones' cones.
+-- Identifiers by the codes of all blocks, and the lists of all blocks by the rows of their zones' cones.
 use Rattle.std.specs.Prelude.{ℕ, ◌+◌, ◌-◌, List}
 use Rattle.std.specs.List.{range_with_len}
 use Rattle.std.specs.Simd.Lanes.{zip2}
@@ -8,19 +8,19 @@ use Rattle.precedence.specs.inner.ZoneTables.{zone_rows}
 use Rattle.precedence.specs.declared.cones.cone_rows.Row.{Row}
 use Rattle.precedence.specs.declared.cones.cone_table.ConeTable.{ConeTable}
 
--- the identifiers whose codes lie in the row
+-- the identifiers whose codes are in the row
 abbrev pub run : ℕ → Row → List ℕ → List ℕ
 run from row codes =
     range_with_len (start_of (from + row.first) codes) (start_of (from + row.past) codes - start_of (from + row.first) codes)
 
--- the identifiers whose codes lie in rows
+-- the identifiers whose codes are in the rows
 abbrev pub lying : ℕ → List Row → List ℕ → List ℕ
 lying from rows codes = places_where (is_in_rows from rows) 0 codes
 
--- those in the cone of a zone, seen from a code
+-- the identifiers in the cone of a zone, as seen from a code
 abbrev pub in_cone : List ConeTable → List ℕ → List ℕ → ℕ → ℕ → List ℕ
 in_cone tables of_zone all zone from = places_where (is_in_rows from (zone_rows tables of_zone zone)) 0 all
 
--- those of each block, by the zones and codes of the blocks
+-- the identifiers in the cone of each block, by the zones and codes of the blocks
 abbrev pub in_cones : List ConeTable → List ℕ → List ℕ → List ℕ → List ℕ → List (List ℕ)
 in_cones tables of_zone all zones codes = zip2 (in_cone tables of_zone all) zones codes

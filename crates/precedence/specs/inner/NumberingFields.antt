@@ -1,4 +1,4 @@
--- How a numbering's columns are seen.
+-- The numbering that columns represent.
 use Rattle.std.specs.Prelude.{◌≡◌, ◌<◌, ◌≤◌, length, All}
 use Rattle.std.specs.List.Sorted.{IsStrictlyIncreasing}
 use Rattle.precedence.specs.Codes.{place_codes}
@@ -9,7 +9,7 @@ use Rattle.plan_parts.specs.declared.ranges.TheConstants.{MAX_BLOCKS}
 abbrev pub numbered_of : Inside → NumberingView
 numbered_of n = record { blocks = n.blocks.items; positions = n.positions.items }
 
--- the blocks rise, each has a position among them, and their number is that of at most 64 zone files
+-- the blocks ascend by code, each has a position among them, and they are at most MAX_BLOCKS
 pub record KeepsNumbering (n : Inside) : Type 0 where
   pub rising : IsStrictlyIncreasing (place_codes n.blocks.items)
   pub placed : length n.positions.items ≡ length n.blocks.items

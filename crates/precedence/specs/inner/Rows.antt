@@ -1,4 +1,4 @@
--- The rows of a cone: where the codes of its blocks lie, as seen from a block.
+-- The rows of a cone: the codes of its blocks, as seen from a block.
 use Rattle.std.specs.Prelude.{◌≡◌, ℕ, ◌+◌, ◌-◌, ◌*◌, ◌<◌, ◌≤◌, ◌&&◌, ◌||◌, Bool, false, List, [], ◌∷◌, map, nat_lt, nat_le}
 use Rattle.std.specs.Int.{abs_diff}
 use Rattle.std.specs.List.{prefix_len}
@@ -12,7 +12,7 @@ use Rattle.precedence.specs.declared.places.code.TheConstants.{BENCH, ROW}
 use Rattle.precedence.specs.declared.cones.cone_rows.Row.{Row}
 use Rattle.precedence.specs.declared.cones.cone_rows.Extent.{Extent}
 
--- a code lies in the row, as seen from the code `from`
+-- a code is in the row, as seen from the code `from`
 abbrev pub is_in_row : ℕ → Row → ℕ → Bool
 is_in_row from row c = nat_le (from + row.first) c && nat_lt c (from + row.past)
 
@@ -20,47 +20,47 @@ abbrev pub is_in_rows : ℕ → List Row → ℕ → Bool
 is_in_rows from [] c = false
 is_in_rows from (row ∷ rows) c = is_in_row from row c || is_in_rows from rows c
 
--- no row is without codes, none begins before the one before it is past, nor before `low`, and all are past at `high`
+-- every row has a code, starts at `low` or later and not before the end of the row before, and ends at `high` or before
 abbrev pub LieApart : ℕ → List Row → ℕ → Type 0
 LieApart low [] high = low ≤ high
 LieApart low (row ∷ rows) high = (low ≤ row.first) × (row.first < row.past) × LieApart row.past rows high
 
--- no further apart than a model's rows and benches are
+-- two blocks no further apart than the model's rows and benches
 pub record IsWithin (extent : Extent) (low high : Block) : Type 0 where
   pub rows : abs_diff low.y high.y ≤ extent.rows
   pub benches : high.z - low.z ≤ extent.benches
 
--- up to the distance `up` the rows tell which block is above which
+-- the rows contain exactly the codes of the blocks above, up to the distance `up`
 pub record Tells (grid : Grid) (cone : Cone) (extent : Extent) (up : ℕ) (rows : List Row) : Type 0 where
   pub apart : LieApart 0 rows up
   pub told : (low high : Block) → IsWithin extent low high → is_in_rows (place_code low) rows (place_code high) ≡ (nat_lt (place_code high) (place_code low + up) && is_above grid cone low high)
 
--- the rows tell of all
+-- the rows contain exactly the codes of the blocks above
 pub record IsTable (grid : Grid) (cone : Cone) (extent : Extent) (rows : List Row) : Type 0 where
   pub high : ℕ
   pub apart : LieApart 0 rows high
   pub told : (low high : Block) → IsWithin extent low high → is_in_rows (place_code low) rows (place_code high) ≡ is_above grid cone low high
 
--- the distance from a block to the codes of the row i of the bench dz above, `rows` rows south of it being row 0
+-- the distance from a block to the codes of the row i of the bench dz above, where row 0 is `rows` rows south of the block
 abbrev pub center : ℕ → ℕ → ℕ → ℕ
 center rows dz i = dz * BENCH + i * ROW - rows * ROW
 
--- where the codes of that row begin at the earliest
+-- the smallest start of that row's codes
 abbrev pub edge : ℕ → ℕ → ℕ → ℕ
 edge rows dz i = dz * BENCH + i * ROW - (rows * ROW + 2 * GRID_CELLS)
 
--- how many codes, from the first on, are below t
+-- the number of codes, from the first on, that are below t
 abbrev pub start_of : ℕ → List ℕ → ℕ
 start_of t cs = prefix_len (λ c. nat_lt c t) cs
 
--- where each row is past
+-- the end of each row
 abbrev pub pasts : List Row → List ℕ
 pasts rows = map (λ row. row.past) rows
 
--- the rows lie in order
+-- the rows are in order
 abbrev pub AreInOrder : List Row → Type 0
 AreInOrder rows = (high : ℕ) × LieApart 0 rows high
 
--- the same, and no row begins before `low`
+-- the rows are in order, and none starts before `low`
 abbrev pub LieFrom : ℕ → List Row → Type 0
 LieFrom low rows = (high : ℕ) × LieApart low rows high

@@ -1,4 +1,4 @@
--- There is one proof at most that rows lie apart, which tables and states keep.
+-- The proof that rows are apart is unique. Tables and views contain it.
 use Rattle.std.specs.Prelude.{ℕ, List, [], ◌∷◌}
 use Rattle.std.specs.Coded.{le_prop}
 use Rattle.precedence.specs.inner.Rows.{LieApart}

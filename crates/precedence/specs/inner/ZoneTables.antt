@@ -1,4 +1,4 @@
--- The tables of cones, and which is whose.
+-- The tables of cones, and the table of each zone.
 use Rattle.std.specs.Prelude.{◌≡◌, ℕ, ◌<◌, ◌≤◌, List, [], Option, Some, None, All, length, slice_get, slice_index, slice_index_or}
 use Rattle.plan_parts.specs.declared.block.Block.{Block}
 use Rattle.plan_parts.specs.declared.cone.Cone.{Cone}
@@ -9,30 +9,30 @@ use Rattle.precedence.specs.declared.cones.cone_table.ConeTable.{ConeTable}
 use Rattle.precedence.specs.declared.cones.cone_rows.Extent.{Extent}
 use Rattle.precedence.specs.declared.cones.cone_rows.Row.{Row}
 
--- the bounds hold the block
+-- the bounds include the block
 pub record Holds (bounds : Bounds) (b : Block) : Type 0 where
   pub south : bounds.south ≤ b.y
   pub north : b.y ≤ bounds.north
   pub top : b.z ≤ bounds.top
 
--- as far as another, or further
+-- at least as far as the other
 pub record IsWider (extent other : Extent) : Type 0 where
   pub rows : other.rows ≤ extent.rows
   pub benches : other.benches ≤ extent.benches
 
--- the table tells of each zone that has its cone, as far as that zone needs it
+-- the table is correct for each zone with its cone, as far as the zone's extent
 pub record IsTold (grid : Grid) (cones : List Cone) (extents : List Extent) (table : ConeTable) : Type 0 where
   pub each : (z : ℕ) (cone : Cone) (e : Extent) → z < length cones → slice_index_or cones z cone ≡ table.cone
       → IsTable grid table.cone (slice_index_or extents z e) table.rows.items
 
--- the table of a cone is at a place, and those before are as they were
+-- `place` is the index of the cone's table, and the tables before it are unchanged
 pub record HasTableAt (cone : Cone) (old new : List ConeTable) (place : ℕ) : Type 0 where
   pub within : place < length new
   pub cone_is : (t : ConeTable) → (slice_index_or new place t).cone ≡ cone
   pub more : length old ≤ length new
   pub kept : (k : ℕ) (t : ConeTable) → k < length old → slice_index_or new k t ≡ slice_index_or old k t
 
--- zone by zone, the table at the zone's index is that of its cone
+-- each zone's index is the index of its cone's table
 pub record HasTables (grid : Grid) (cones : List Cone) (extents : List Extent) (tables : List ConeTable) (of_zone : List ℕ) : Type 0 where
   pub zones : length of_zone ≡ length cones
   pub below : All (λ t. t < length tables) of_zone

@@ -6,8 +6,8 @@ ghost use Rattle.precedence.specs.inner.Alike.{AreAlike};
 use crate::cones::zone_tables::ZoneTables;
 use crate::places::Places;
 
-/// The blocks of a model by identifier, lent: where each lies, its zone, which has the table of a cone, and how many from it on follow one
-/// another along x and have one cone.
+/// The blocks of a model by identifier, borrowed: their codes, their zones, the cone table of each zone, and the number of blocks with
+/// the same cone that follow one another along x from each block on.
 #[derive(Clone, Copy, Drop)]
 pub struct BlockCones<'a> {
     pub places: &'a Places,

@@ -1,4 +1,4 @@
-//! How far the blocks above those of a zone are from them.
+//! The distances from the blocks of a zone to the blocks above them.
 
 ghost use Rattle.std.specs.Prelude.{◌≡◌, ◌<◌, ◌≤◌, ℕ, All, IfOk, length, slice_index_or};
 ghost use Rattle.plan_parts.specs.declared.block.Block.{Block};
@@ -14,7 +14,7 @@ use plan_parts::cone::Cone;
 use plan_parts::ranges::GRID_CELLS;
 use std::alloc::{AllocError, Global};
 
-/// The least and greatest index along y of some blocks, and the greatest along z.
+/// The smallest and largest index along y of a set of blocks, and their largest index along z.
 #[derive(Clone, Copy, Debug)]
 pub struct Bounds {
     pub south: u16,
@@ -22,13 +22,13 @@ pub struct Bounds {
     pub top: u16,
 }
 
-// No distance at all.
+// No distance.
 const NOWHERE: Extent = Extent {
     rows: 0,
     benches: 0,
 };
 
-/// For each of so many zones the greatest distances between one of its blocks and one of the blocks with a greater identifier.
+/// Returns, for each of `zones` zones, the largest distances between a block of the zone and a block whose identifier is not smaller.
 pub fn extents_of(alloc: Global, blocks: &[Block], zones: usize) -> Result<Vec<Extent>, AllocError>
     requires { All (λ b. b.zone < zones) blocks.now }
     ensures each { IfOk result (λ extents. length extents.items ≡ zones) }
@@ -53,7 +53,7 @@ pub fn extents_of(alloc: Global, blocks: &[Block], zones: usize) -> Result<Vec<E
     Ok(extents)
 }
 
-// The bounds that hold the block too.
+// Extends the bounds to the block.
 fn widened(bounds: Bounds, block: &Block) -> Bounds
     ensures holds { Holds result block.now }
     ensures more { (other : Block) → Holds bounds other → Holds result other }
@@ -67,7 +67,7 @@ fn widened(bounds: Bounds, block: &Block) -> Bounds
     }
 }
 
-// The extent that also reaches from the block to each one that the bounds hold.
+// Extends the extent to reach from the block to each block within the bounds.
 fn extent_to_bounds(extent: Extent, bounds: Bounds, block: &Block) -> Extent
     requires north { bounds.north < GRID_CELLS }
     requires top { bounds.top < GRID_CELLS }
@@ -82,7 +82,7 @@ fn extent_to_bounds(extent: Extent, bounds: Bounds, block: &Block) -> Extent
     }
 }
 
-/// The extent that each of the zones with a cone needs.
+/// Returns an extent that covers the extent of every zone with the cone.
 pub fn extent_for(cones: &[Cone], extents: &[Extent], cone: Cone) -> Extent
     requires { length extents.now ≡ length cones.now }
     ensures { (z : ℕ) (c : Cone) (e : Extent) → z < length cones.now
@@ -98,7 +98,7 @@ pub fn extent_for(cones: &[Cone], extents: &[Extent], cone: Cone) -> Extent
     Extent { rows, benches }
 }
 
-// The extent of a zone, where it has the cone.
+// Returns the zone's extent if the zone has the cone, else no distance.
 fn extent_where(own: &Cone, cone: Cone, extent: Extent) -> Extent
     ensures { own.now ≡ cone → result ≡ extent }
 {

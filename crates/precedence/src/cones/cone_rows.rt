@@ -1,9 +1,9 @@
-//! What is told of the rows of cones. Definitions name these types, and so no function stands beside them.
+//! Types for the rows of cones. Definitions name these types, so this module has no functions.
 
 ghost use Rattle.std.specs.Prelude.{◌<◌, ◌≤◌, ◌^◌};
 ghost use Rattle.plan_parts.specs.declared.ranges.TheConstants.{GRID_CELLS};
 
-/// The greatest distances between two blocks of a model.
+/// The largest distances between two blocks of a model.
 #[derive(Clone, Copy, Debug)]
 pub struct Extent {
     /// Along y, in rows.
@@ -14,9 +14,8 @@ pub struct Extent {
     pub ghost few_benches: { benches < GRID_CELLS },
 }
 
-/// How far the slopes reach in one row of a cone: a block lies inside at a distance of `d` blocks along x exactly where
-/// `(d * weight)^2 + used <= reach`. Lengths are in millimetres, multiplied by numbers of the slopes so that they are
-/// whole.
+/// The reach of the slopes in one cone row: a block at a distance of `d` blocks along x is inside exactly if `(d * weight)^2 + used <=
+/// reach`. Lengths are in millimetres, multiplied by the numbers of the slopes to make them integers.
 #[derive(Clone, Copy, Debug)]
 pub struct Reach {
     /// The length of one block along x.
@@ -30,22 +29,21 @@ pub struct Reach {
     pub ghost small_reach: { reach ≤ 10 ^ 30 },
 }
 
-/// How many of the distances 0, 1, .. along x lie inside in a row of a cone, on each side: at most 10,000.
+/// The numbers of distances 0, 1, .. along x that are inside in a cone row, on each side: at most 10,000.
 #[derive(Clone, Copy, Debug)]
 pub struct SideCounts {
     pub west: u16,
     pub east: u16,
 }
 
-/// How far rows of a cone reach at most to the west and to the east of the block below, in blocks.
+/// The largest reach of a cone's rows to the west and to the east of the block below, in blocks.
 #[derive(Clone, Copy, Debug)]
 pub struct Widths {
     pub west: u64,
     pub east: u64,
 }
 
-/// Where a row of a cone lies: the codes of its blocks are from `first` on and before `past`, as distances from the code of the
-/// block below.
+/// The position of a cone row: its codes are from `first` to `past` (exclusive), as distances from the code of the block below.
 #[derive(Clone, Copy, Debug)]
 pub struct Row {
     pub first: u64,

@@ -13,12 +13,12 @@ use plan_parts::cone::Cone;
 pub struct ConeTable {
     pub cone: Cone,
     pub rows: Vec<Row>,
-    /// Where each row is past.
+    /// The end of each row (exclusive).
     pub past: Vec<u64>,
+    /// The first row of each bench: a guess.
+    pub benches: Vec<usize>,
     pub widths: Widths,
-    /// The row that is the widest: a guess.
-    pub widest: usize,
-    /// The number of rows in the tables before, where the hints for its own begin.
+    /// The number of rows in the tables before, at which the hints for this table's rows start.
     pub start: usize,
     pub ghost in_order: { LieApart 0 rows.items (10 ^ 15) } by { LieApart-prop 0 rows.items (10 ^ 15) },
     pub ghost all_past: { past.items ≡ pasts rows.items },

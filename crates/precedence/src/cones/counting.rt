@@ -1,7 +1,7 @@
-//! Counting the blocks of a row that a cone takes in.
+//! Counts of the blocks of a row that are inside a cone.
 
 ghost use Rattle.std.specs.Prelude.{◌≡◌, ◌*◌, ◌<◌, ◌≤◌, ◌^◌, false};
-ghost use Rattle.plan_parts.specs.PlanKept.{IsCone, IsGrid, IsSlope};
+ghost use Rattle.plan_parts.specs.PlanInvariant.{IsCone, IsGrid, IsSlope};
 ghost use Rattle.precedence.specs.Cone.{square};
 ghost use Rattle.precedence.specs.inner.Reach.{takes_in, slope_across, CountsAll, CountsRow, CountsSide};
 ghost use Rattle.plan_parts.specs.declared.ranges.TheConstants.{GRID_CELLS, MAX_SIZE, MAX_SLOPE};
@@ -11,8 +11,8 @@ use plan_parts::cone::{Cone, Slope};
 use plan_parts::grid::Grid;
 use plan_parts::ranges::GRID_CELLS;
 
-/// How many blocks of the row `i` of the bench `dz` above lie inside the slopes, where the block's own row is `rows`.
-/// `nearby` is a guess, such as the counts of a row nearby: it changes the time and not the answer.
+/// Counts the blocks of the row `i` on the bench `dz` above that are inside the slopes, if the block's own row is `rows`. `nearby` is a
+/// guess, such as the counts of a nearby row: it changes the time and not the result.
 pub fn row_counts(
     grid: Grid,
     cone: Cone,
@@ -55,7 +55,7 @@ fn side_count(grid: Grid, along: Slope, across: Slope, dy: u16, dz: u16, nearby:
     lowered(reach, raised(reach, nearby.min(GRID_CELLS)))
 }
 
-// What the slopes leave of their reach in the row `dy` rows away on the bench `dz` above.
+// Returns the slopes' reach in the row `dy` rows away on the bench `dz` above.
 fn reach_in_row(grid: Grid, along: Slope, across: Slope, dy: u16, dz: u16) -> Reach
     requires grid { IsGrid grid }
     requires along { IsSlope along }
@@ -103,7 +103,7 @@ fn takes_in(reach: Reach, distance: u16) -> bool
     squared(distance, reach.weight) + reach.used <= reach.reach
 }
 
-// The count, or a greater one where the next distance is taken in.
+// Raises the count as long as the next distance is inside.
 fn raised(reach: Reach, count: u16) -> u16
     requires { count ≤ GRID_CELLS }
     ensures few { result ≤ GRID_CELLS }
@@ -116,7 +116,7 @@ fn raised(reach: Reach, count: u16) -> u16
     count
 }
 
-// The count, or a smaller one where its last distance is not taken in.
+// Lowers the count as long as its last distance is not inside.
 fn lowered(reach: Reach, count: u16) -> u16
     requires few { count ≤ GRID_CELLS }
     requires enough { count < GRID_CELLS → takes_in count reach ≡ false }

@@ -1,7 +1,7 @@
-//! The table of a cone's rows.
+//! Computes the rows of a cone.
 
 ghost use Rattle.std.specs.Prelude.{◌≡◌, ◌+◌, ◌-◌, ◌*◌, ◌<◌, ◌≤◌, ◌++◌, [], ◌∷◌, OnOk, IfOk, max};
-ghost use Rattle.plan_parts.specs.PlanKept.{IsCone, IsGrid};
+ghost use Rattle.plan_parts.specs.PlanInvariant.{IsCone, IsGrid};
 ghost use Rattle.precedence.specs.inner.Rows.{center, edge, IsTable, Tells};
 ghost use Rattle.plan_parts.specs.declared.ranges.TheConstants.{GRID_CELLS};
 
@@ -12,8 +12,8 @@ use plan_parts::cone::Cone;
 use plan_parts::grid::Grid;
 use std::alloc::{AllocError, Global};
 
-/// The rows of a cone, in order, in a model no greater than `extent`: a block lies in the cone exactly where its code
-/// lies in one of these rows.
+/// Returns the rows of a cone, in order, for a model no larger than `extent`: a block is in the cone exactly if its code is in one of
+/// these rows.
 pub fn cone_rows(
     alloc: Global,
     grid: Grid,
@@ -32,7 +32,7 @@ pub fn cone_rows(
     Ok(rows)
 }
 
-// Adds the rows of the bench `dz` above.
+// Appends the rows of the bench `dz` above.
 fn add_bench(
     rows: &mut Vec<Row>,
     grid: Grid,
@@ -55,7 +55,7 @@ fn add_bench(
     Ok(())
 }
 
-// Adds a row where it has codes.
+// Appends a row if it has codes.
 fn add_row(rows: &mut Vec<Row>, row: Row) -> Result<(), AllocError>
     ensures row { OnOk result (row.first < row.past → rows.new.items ≡ rows.old.items ++ row ∷ []) }
     ensures no_row { OnOk result (row.past ≤ row.first → rows.new.items ≡ rows.old.items) }
@@ -66,7 +66,7 @@ fn add_row(rows: &mut Vec<Row>, row: Row) -> Result<(), AllocError>
     Ok(())
 }
 
-// The row `i` of the bench `dz` above, with so many blocks on each side.
+// Returns the row `i` of the bench `dz` above, with the numbers of blocks in `counts` on each side.
 fn bench_row(extent: Extent, dz: u16, i: u16, counts: SideCounts) -> Row
     requires up { 1 ≤ dz }
     requires dz { dz < GRID_CELLS }

@@ -1,4 +1,4 @@
-//! How wide the rows of a cone are, and where they are past.
+//! The widths and ends of a cone's rows.
 
 ghost use Rattle.std.specs.Prelude.{◌≡◌, ◌<◌, ◌≤◌, ◌^◌, IfOk};
 ghost use Rattle.precedence.specs.inner.Beside.{middle, AreNoWider};
@@ -8,7 +8,7 @@ use crate::cones::cone_rows::{Row, Widths};
 use crate::places::code::ROW;
 use std::alloc::{AllocError, Global};
 
-/// The widths of these rows, or of parts of rows.
+/// Returns widths that no given row exceeds; the rows may be parts of rows.
 pub fn widths_of(rows: &[Row]) -> Widths
     ensures { AreNoWider result rows.now }
 {
@@ -22,21 +22,7 @@ pub fn widths_of(rows: &[Row]) -> Widths
     Widths { west, east }
 }
 
-/// The number of the first of the widest rows.
-pub fn widest_of(rows: &[Row]) -> usize {
-    let mut widest = 0;
-    let mut most = 0;
-    for i in 0..rows.len() {
-        let width = rows[i].past - rows[i].first;
-        if most < width {
-            most = width;
-            widest = i;
-        }
-    }
-    widest
-}
-
-/// Where each of these rows is past. Fails only where memory is refused.
+/// Returns the end of each row. Fails only if memory is refused.
 pub fn pasts_of(alloc: Global, rows: &[Row]) -> Result<Vec<u64>, AllocError>
     ensures { IfOk result (λ past. past.items ≡ pasts rows.now) }
 {

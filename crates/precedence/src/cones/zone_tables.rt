@@ -1,7 +1,7 @@
-//! The tables of the cones of all zones.
+//! The tables of all zones' cones.
 
 ghost use Rattle.std.specs.Prelude.{◌≡◌, ◌<◌, IfOk, IfSome, OnOk, Some, All, length, slice_get, slice_index, slice_index_or};
-ghost use Rattle.plan_parts.specs.PlanKept.{IsCone, IsGrid};
+ghost use Rattle.plan_parts.specs.PlanInvariant.{IsCone, IsGrid};
 ghost use Rattle.precedence.specs.inner.ZoneTables.{HasTableAt, HasTables, IsTold};
 ghost use Rattle.precedence.specs.declared.cones.cone_table.ConeTable.{ConeTable};
 
@@ -9,12 +9,13 @@ use crate::cones::bounds::extent_for;
 use crate::cones::cone_rows::Extent;
 use crate::cones::cone_table::ConeTable;
 use crate::cones::row_making::cone_rows;
-use crate::cones::widths::{pasts_of, widest_of, widths_of};
+use crate::cones::widths::{pasts_of, widths_of};
+use crate::lanes::benches::benches_of;
 use plan_parts::cone::Cone;
 use plan_parts::grid::Grid;
 use std::alloc::{AllocError, Global};
 
-/// The tables of different cones, and of each zone the place of its cone's table.
+/// The tables of different cones, and the index of each zone's table.
 #[derive(Debug, Drop)]
 pub struct ZoneTables {
     pub tables: Vec<ConeTable>,
@@ -23,7 +24,7 @@ pub struct ZoneTables {
 }
 
 impl ZoneTables {
-    /// The table of a zone's cone.
+    /// Returns the table of a zone's cone.
     pub fn of(&self, zone: u8) -> &ConeTable
         requires { zone < length self.now.of_zone.items }
         ensures { slice_get self.now.tables.items (slice_index self.now.of_zone.items zone)
@@ -32,13 +33,13 @@ impl ZoneTables {
         &self.tables[self.of_zone[zone as usize]]
     }
 
-    /// The number of rows of all tables.
+    /// Returns the number of rows of all tables.
     pub fn rows(&self) -> usize {
         rows_before(self.tables.as_slice())
     }
 }
 
-/// The tables of these cones, one a zone, each as wide as its zone's extent. Equal cones share one.
+/// Returns the tables of the cones, which are listed by zone, each covering its zone's extent. Equal cones share a table.
 pub fn tables_of(
     alloc: Global,
     grid: Grid,
@@ -59,7 +60,7 @@ pub fn tables_of(
     Ok(ZoneTables { tables, of_zone })
 }
 
-// The place of a cone's table, which is made where there is none.
+// Returns the index of a cone's table, which is appended if there is none.
 fn place_of(
     alloc: Global,
     tables: &mut Vec<ConeTable>,
@@ -85,7 +86,7 @@ fn place_of(
     Ok(place)
 }
 
-// The place of the first table of a cone.
+// Returns the index of a table of the cone.
 fn find_cone(tables: &[ConeTable], cone: Cone) -> Option<usize>
     ensures within { IfSome result (λ place. place < length tables.now) }
     ensures same { IfSome result (λ place. (t : ConeTable)
@@ -117,14 +118,14 @@ fn table_of(
 {
     let rows = cone_rows(alloc, grid, cone, extent_for(cones, extents, cone))?;
     let past = pasts_of(alloc, rows.as_slice())?;
+    let benches = benches_of(alloc, past.as_slice())?;
     let widths = widths_of(rows.as_slice());
-    let widest = widest_of(rows.as_slice());
     Ok(ConeTable {
         cone,
         rows,
         past,
+        benches,
         widths,
-        widest,
         start,
     })
 }

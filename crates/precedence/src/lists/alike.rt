@@ -1,12 +1,12 @@
-//! Blocks that follow one another along x and have one cone.
+//! Blocks that follow one another along x and have the same cone.
 
 ghost use Rattle.std.specs.Prelude.{◌≡◌, ◌+◌, ◌<◌, All, IfOk, length};
 ghost use Rattle.precedence.specs.inner.Alike.{AreAlike, AreAlikeFrom, FollowAlong};
 
 use std::alloc::{AllocError, Global};
 
-/// Of each block by identifier how many blocks, it being the first, follow one another along x and have one cone. A row of a model has
-/// at most 10,000.
+/// Returns, for each block by identifier, the number of blocks from it on that follow one another along x and have the same cone. A row
+/// of a model has at most 10,000 blocks.
 pub fn alike_of(
     alloc: Global,
     codes: &[u64],
@@ -28,7 +28,7 @@ pub fn alike_of(
     Ok(alike)
 }
 
-/// Of each of these codes how many codes, it being the first, follow one another.
+/// Returns, for each code, the number of codes from it on that follow one another.
 pub fn follow_of(alloc: Global, codes: &[u64]) -> Result<Vec<u16>, AllocError>
     ensures { IfOk result (λ follow. FollowAlong codes.now follow.items) }
 {
@@ -36,7 +36,8 @@ pub fn follow_of(alloc: Global, codes: &[u64]) -> Result<Vec<u16>, AllocError>
     alike_of(alloc, codes, one_zone.as_slice(), &[0])
 }
 
-// How many blocks from one on are alike, where from the next one on so many are.
+// Returns the number of blocks from `id` on that follow one another with the same cone, if there are `behind` such blocks from `id` + 1
+// on.
 fn alike_from(codes: &[u64], zones: &[u8], of_zone: &[usize], id: usize, behind: u16) -> u16
     requires each { length zones.now ≡ length codes.now }
     requires zones { All (λ z. z < length of_zone.now) zones.now }

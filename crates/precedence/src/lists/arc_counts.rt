@@ -1,4 +1,4 @@
-//! How many identifiers stand in the lists of all blocks, counted row by row of their cones.
+//! The number of identifiers in the lists of all blocks, counted by the rows of their cones.
 
 ghost use Rattle.std.specs.Prelude.{◌≡◌, ◌+◌, ◌++◌, ◌==◌, ◌<◌, ◌≤◌, ℕ, [], ◌∷◌, if◌then◌else◌, All, IfOk, OnOk, length, slice_index, sum_by};
 ghost use Rattle.std.specs.List.Sorted.{IsStrictlyIncreasing};
@@ -21,9 +21,9 @@ use std::alloc::{AllocError, Global};
 
 pub mod even_stretch;
 
-/// How many identifiers stand in the lists of all blocks. Of each cone it goes over its rows, and of each row over the blocks with this
-/// cone, so that where a row's run begins and ends is mostly one further than for the block before, or the same. `alike` tells of each block
-/// how many from it on are alike. Fails only where memory is refused.
+/// Returns the number of identifiers in the lists of all blocks. The loop visits the rows of each cone, and for each row the blocks with
+/// this cone. So the start and end of a row's range are mostly those of the block before, or 1 more. `alike` has, for each block, the
+/// number of blocks from it on that follow one another with the same cone. Fails only if memory is refused.
 pub fn arcs_in_cones(
     alloc: Global,
     places: &Places,
@@ -48,7 +48,7 @@ pub fn arcs_in_cones(
     Ok(arcs)
 }
 
-// The codes of the blocks whose cone has the table with this number.
+// Returns the codes of the blocks whose cone has the table with this number.
 fn codes_with(
     alloc: Global,
     places: &Places,
@@ -71,7 +71,7 @@ fn codes_with(
     Ok(own)
 }
 
-// Appends a code where the two numbers are the same.
+// Appends the code if the two numbers are equal.
 #[inline(always)]
 fn push_own(own: &mut Vec<u64>, place: usize, number: usize, code: u64) -> Result<(), AllocError>
     requires code { code < CODES }
@@ -87,7 +87,8 @@ fn push_own(own: &mut Vec<u64>, place: usize, number: usize, code: u64) -> Resul
     Ok(())
 }
 
-// How many identifiers lie in the rows, seen from each of these codes. `follow` tells of each how many from it on follow one another.
+// Returns the number of identifiers in the rows, as seen from each of the codes. `follow` has, for each code, the number of codes from it
+// on that follow one another.
 fn arcs_in_rows(places: &Places, alike: &[u16], own: &[u64], follow: &[u16], rows: &[Row]) -> u64
     requires alike { FollowAlong places.now.codes.items alike.now }
     requires follow { FollowAlong own.now follow.now }
@@ -104,8 +105,8 @@ fn arcs_in_rows(places: &Places, alike: &[u16], own: &[u64], follow: &[u16], row
     arcs
 }
 
-// The same of one row. Blocks with nothing in it are passed over, and those of which it has evenly more or fewer are counted, many at a
-// time.
+// Returns the number of identifiers in one row, as seen from each of the codes. Codes with an empty row are passed over. Codes whose
+// numbers grow or shrink evenly are counted many at a time.
 fn arcs_in_row(places: &Places, alike: &[u16], own: &[u64], follow: &[u16], row: Row) -> u64
     requires alike { FollowAlong places.now.codes.items alike.now }
     requires follow { FollowAlong own.now follow.now }
@@ -131,7 +132,7 @@ fn arcs_in_row(places: &Places, alike: &[u16], own: &[u64], follow: &[u16], row:
     arcs
 }
 
-// The first of these codes behind the place `k` in whose row the identifier `id` can lie, or their number.
+// Returns the first index after `k` of a code whose row can contain the identifier `id`, or the number of codes.
 fn next_own(places: &Places, own: &[u64], row: Row, k: usize, id: usize) -> usize
     requires rising { IsStrictlyIncreasing own.now }
     requires k { k < length own.now }

@@ -1,4 +1,4 @@
-//! Passing over blocks beside a cone, many at a time.
+//! Passes over blocks beside a cone, many at a time.
 
 ghost use Rattle.std.specs.Prelude.{◌≡◌, ◌+◌, ◌*◌, ◌/◌, ◌<◌, ◌≤◌, ℕ, false, length, slice_index, IsTrue};
 ghost use Rattle.precedence.specs.inner.Beside.{IsBeside, IsNoWider, LeaveOut};
@@ -13,29 +13,31 @@ use crate::places::code::ROW;
 use crate::places::spans::{CHUNK, FEW_ROWS};
 use plan_parts::ranges::GRID_CELLS;
 
-// Of a cone that reaches further nothing is passed over.
+// The largest width of a cone with blocks that are passed over.
 const WIDE: u64 = 50_000;
 
-/// From which identifier on blocks are looked for, and from which on it is worth to try again whether some can be passed over: a guess.
+/// The identifier from which on blocks are looked for, and the identifier from which on another attempt to pass over blocks pays: a
+/// guess.
 #[derive(Clone, Copy, Debug)]
 pub struct Behind {
     pub id: u32,
     pub retry: u32,
 }
 
-/// What is known before the first row.
+/// The value before the first row.
 pub const BEFORE_ALL: Behind = Behind { id: 0, retry: 0 };
 
-// The blocks at an index along x before `west`, and from `east` on, lie beside a cone.
+// The columns of a cone: blocks with an index along x before `west`, or from `east` on, are beside it.
 #[derive(Clone, Copy, Debug)]
 struct Sides {
     west: u64,
     east: u64,
 }
 
-/// How blocks are passed over behind an empty run.
+/// A method to pass over blocks after an empty range.
 pub trait PassBlocks {
-    /// From which identifier on blocks are looked for behind the run of the row `i`. `past` has the end of each row of the cone.
+    /// Returns the identifier from which on blocks are looked for after the range of the row `i`. `past` has the end of each row of the
+    /// cone. No block passed over is in a row that is no wider than `widths`.
     fn id_behind(
         &self,
         places: &Places,
@@ -54,11 +56,11 @@ pub trait PassBlocks {
             → is_in_row from row (slice_index places.now.codes.items m) ≡ false };
 }
 
-/// Passes over nothing: where rows have many blocks there is little to pass over, and each step counts.
+/// Passes over nothing: rows with many blocks have little to pass over, and each step costs time.
 #[derive(Clone, Copy, Debug)]
 pub struct ByRow;
 
-/// Passes over chunks of identifiers whose blocks lie beside all rows of the cone.
+/// Passes over chunks of identifiers whose blocks are beside all rows of the cone.
 #[derive(Clone, Copy, Debug)]
 pub struct ByChunk;
 
@@ -103,7 +105,7 @@ impl PassBlocks for ByChunk {
     }
 }
 
-// The same behind an empty run, where it is worth to try.
+// Returns the identifier after an empty range, if an attempt to pass over blocks pays.
 #[cold]
 #[inline(never)]
 fn behind_empty(
@@ -127,7 +129,7 @@ fn behind_empty(
     }
 }
 
-// The first identifier from `id` on that is not passed over.
+// Returns the first identifier from `id` on that is not passed over.
 fn first_not_beside(
     places: &Places,
     past: &[u64],
@@ -154,7 +156,7 @@ fn first_not_beside(
     pass_beside(places, past, columns_of(widths, from), i, id, from)
 }
 
-// The same, of these columns.
+// Returns the first identifier from `id` on that is not passed over, for these columns.
 fn pass_beside(
     places: &Places,
     past: &[u64],
@@ -179,7 +181,7 @@ fn pass_beside(
     next
 }
 
-// Whether the rest of a chunk, from an identifier on, goes past the row.
+// Returns whether the remainder of a chunk, from an identifier on, extends past the row.
 #[inline(always)]
 fn gets_on(codes: &[u64], past: &[u64], row: usize, id: usize, from: u64) -> bool
     ensures { IsTrue result → id < length codes.now }
@@ -191,7 +193,7 @@ fn gets_on(codes: &[u64], past: &[u64], row: usize, id: usize, from: u64) -> boo
     from.saturating_add(past[row]) <= codes[end - 1]
 }
 
-// Where the chunk of an identifier ends.
+// Returns the end of an identifier's chunk.
 #[inline(always)]
 fn end_of_chunk(count: usize, id: usize) -> usize
     ensures later { id < count → id < result }
@@ -201,7 +203,7 @@ fn end_of_chunk(count: usize, id: usize) -> usize
     (id / CHUNK * CHUNK).saturating_add(CHUNK).min(count)
 }
 
-// Whether all blocks of the chunk of an identifier lie beside the columns.
+// Returns whether the blocks of an identifier's chunk, from the identifier on, are beside the columns.
 #[inline(always)]
 fn lies_beside(places: &Places, columns: Sides, id: usize) -> bool
     ensures { IsTrue result → (m : ℕ) → id ≤ m → m < id / CHUNK * CHUNK + CHUNK
@@ -216,7 +218,7 @@ fn lies_beside(places: &Places, columns: Sides, id: usize) -> bool
     }
 }
 
-// The columns of a cone, seen from the code `from`.
+// Returns the columns of a cone, as seen from the code `from`.
 fn columns_of(widths: &Widths, from: u64) -> Sides
     ensures { LeaveOut widths.now from result.west result.east }
 {

@@ -1,4 +1,4 @@
-//! Lists of predecessors that are counted and not kept.
+//! Lists of predecessors that are counted and not stored.
 
 ghost use Rattle.std.specs.Prelude.{◌≡◌, []};
 
@@ -7,12 +7,12 @@ use plan_parts::listed::past::Past;
 use std::alloc::AllocError;
 use std::marker::Model;
 
-/// How many blocks had a list, and how many identifiers stood in the lists. Contracts see the lists themselves, as of `Preds`.
+/// The number of blocks with a list, and the number of identifiers in the lists. Contracts see the lists, as with `Preds`.
 #[derive(Drop)]
 pub struct CountedPreds {
     blocks: usize,
     arcs: usize,
-    // Contracts alone see it.
+    // Visible to contracts only.
     lists: Past<Vec<u32>>,
 }
 
@@ -28,7 +28,7 @@ impl Model for CountedPreds {
 }
 
 impl CountedPreds {
-    /// No lists.
+    /// Returns a value without lists.
     pub fn new() -> CountedPreds
         ensures { result ≡ [] }
     {

@@ -1,6 +1,7 @@
-//! Predecessors that are found when they are asked for.
+//! Predecessors that are computed lazily.
 
-ghost use Rattle.std.specs.Prelude.{◌≡◌, ◌<◌, ◌++◌, IfOk, OnOk, length, map, sum_by};
+ghost use Rattle.std.specs.Prelude.{◌≡◌, ◌<◌, ◌^◌, ◌++◌, [], IfOk, OnOk, filter, length, map, not, slice_index_or, sum_by};
+ghost use Rattle.precedence.specs.Behind.{is_behind};
 ghost use Rattle.precedence.specs.Cone.{preds};
 ghost use Rattle.precedence.specs.Zones.{HasZones};
 ghost use Rattle.precedence.specs.IdRuns.{ids_of};
@@ -10,20 +11,16 @@ ghost use Rattle.precedence.specs.declared.places.code.TheConstants.{CODES};
 use crate::cones::block_cones::BlockCones;
 use crate::cones::bounds::extents_of;
 use crate::cones::zone_tables::{ZoneTables, tables_of};
-use crate::cuts::between::has_between;
-use crate::cuts::state::States;
-use crate::cuts::states::no_states;
-use crate::cuts::walking::walk;
+use crate::lanes::strips::Windows;
+use crate::lanes::windows::{add_retained, no_windows};
 use crate::lists::alike::alike_of;
 use crate::lists::arc_counts::arcs_in_cones;
 use crate::lists::beside::{ByChunk, ByRow};
-use crate::lists::enough_preds::EnoughPreds;
 use crate::lists::id_run::IdRun;
 use crate::lists::ids_as_runs::add_ids_of_runs;
-use crate::lists::moving::moved_in_rows;
 use crate::lists::pred_lists::PredLists;
 use crate::lists::predecessors::Preds;
-use crate::lists::row_runs::{Hint, NOTHING_KNOWN, add_runs_in_rows, no_hints};
+use crate::lists::row_runs::{Hint, add_runs_in_rows, no_hints};
 use crate::numbering::Numbering;
 use crate::places::{Places, places_of};
 use plan_parts::block::Block;
@@ -32,28 +29,23 @@ use std::alloc::{AllocError, Global};
 use std::cell::Cell;
 use std::marker::Model;
 
-// As many blocks lie in a cone of one bench under slopes of 1:1, and a few more.
+// A cone of one bench under slopes of 1:1 has about this many blocks.
 const USUAL: usize = 8;
 
-/// The predecessors of each block by identifier, in rising order. They are not kept: those of a block are found when they are asked
-/// for. It takes 11 bytes for each block and 32 for each row of a cone, and what walks keep. Contracts see the list of all lists, as of
-/// `Preds`.
+/// The predecessors of each block by identifier, in ascending order, computed when they are requested. Takes 11 bytes for each block, 40
+/// bytes for each cone row, and the windows. Contracts see the list of all lists, as with `Preds`.
 #[derive(Drop)]
 pub struct FoundPreds {
     places: Places,
-    // of each block by identifier
+    // by identifier
     zones: Vec<u8>,
-    // of each block how many from it on follow one another along x and have one cone
+    // the number of blocks from each one on that follow one another along x with the same cone
     alike: Vec<u16>,
     tables: ZoneTables,
-    // where the run of each row of the tables was found last: a guess, which changes the time and not the lists
+    // the last range of each row of the tables: a guess, which changes the time and not the lists
     hints: Vec<Cell<Hint>>,
-    // from which block on none was moved along, and before which it is not asked again: a guess
-    not_moved: Cell<Hint>,
-    // the states of walks over the cones that were made so far
-    states: States,
-    // whether all zones have one cone
-    closed: bool,
+    // the reduced lists of the last windows' blocks
+    windows: Windows,
 }
 
 impl Model for FoundPreds {
@@ -69,8 +61,8 @@ impl Model for FoundPreds {
 }
 
 impl FoundPreds {
-    /// The blocks of the cone above each block, whose slopes and number of benches are those of the block's own zone. The plan has to
-    /// have the zone of each block. Fails only where memory is refused.
+    /// Creates lists whose entry for a block has the blocks of the cone above it. The slopes and the number of benches are those of the
+    /// block's zone. The plan must have the zone of each block. Fails only if memory is refused.
     pub fn new(alloc: Global, numbering: &Numbering, plan: &Plan) -> Result<FoundPreds, AllocError>
         requires { HasZones plan.now numbering.now.blocks }
         ensures { IfOk result (λ found. found ≡ preds plan.now numbering.now.blocks) }
@@ -88,25 +80,24 @@ impl FoundPreds {
             tables.of_zone.as_slice(),
         )?;
         let hints = no_hints(alloc, tables.rows())?;
-        let closed = tables.tables.len() <= 1;
+        let windows = no_windows(alloc, tables.tables.len())?;
         Ok(FoundPreds {
             places,
             zones,
             alike,
             tables,
             hints,
-            not_moved: Cell::new(NOTHING_KNOWN),
-            states: no_states(alloc),
-            closed,
+            windows,
         })
     }
 
-    /// Whether many rows of a bench have few blocks. Then to find all lists takes less time than to go over all rows of a cone.
+    /// Returns whether many rows of a bench have few blocks. If so, computing all lists takes less time than counting by the rows of the
+    /// cones.
     pub fn is_sparse(&self) -> bool {
         self.places.sparse
     }
 
-    /// How many identifiers stand in all lists. Fails only where memory is refused.
+    /// Returns the number of identifiers in all lists. Fails only if memory is refused.
     pub fn arcs(&self, alloc: Global) -> Result<u64, AllocError>
         ensures { IfOk result (λ arcs. arcs ≡ sum_by length self.now) }
     {
@@ -119,7 +110,29 @@ impl FoundPreds {
         )
     }
 
-    /// All lists, kept. Fails only where memory is refused.
+    /// Appends the block's reduced list to the empty `ids`: a predecessor is dropped if it is also a predecessor of another of the
+    /// block's predecessors. Stores results for the blocks after it in its row. The lists stay unchanged. Fails only if memory is
+    /// refused; then `ids` is invalid.
+    #[tactic(auto, using(crate::proofs::AllLists::found_length))]
+    pub fn add_retained(&mut self, ids: &mut Vec<u32>, block: u32) -> Result<(), AllocError>
+        requires block { block < length self.old }
+        requires none { ids.old.items ≡ [] }
+        ensures retained { OnOk result (ids.new.items ≡ filter
+            (λ c. not (is_behind self.old (slice_index_or self.old block []) c)) (slice_index_or self.old block [])) }
+        ensures kept { self.new ≡ self.old }
+        ensures countable { length (slice_index_or self.old block []) < 2 ^ 63 }
+    {
+        let cones = BlockCones {
+            places: &self.places,
+            zones: self.zones.as_slice(),
+            alike: self.alike.as_slice(),
+            tables: &self.tables,
+        };
+        add_retained(ids, &mut self.windows, &cones, block as usize)?;
+        Ok(())
+    }
+
+    /// Returns all lists, stored. Fails only if memory is refused.
     #[tactic(auto, using(crate::proofs::AllLists::found_length))]
     pub fn kept(&self, alloc: Global) -> Result<Preds, AllocError>
         ensures { IfOk result (λ lists. lists ≡ self.now) }
@@ -162,80 +175,8 @@ impl PredLists for FoundPreds {
     }
 }
 
-impl EnoughPreds for FoundPreds {
-    #[tactic(auto, using(crate::proofs::AllLists::found_length))]
-    fn add_enough(
-        &mut self,
-        alloc: Global,
-        found: &mut Vec<u32>,
-        block: u32,
-    ) -> Result<(), AllocError> {
-        let index = block as usize;
-        let zone = self.zones[index];
-        let from = self.places.codes[index];
-        let table = self.tables.of_zone[zone as usize];
-        let cones = BlockCones {
-            places: &self.places,
-            zones: self.zones.as_slice(),
-            alike: self.alike.as_slice(),
-            tables: &self.tables,
-        };
-        walk(
-            alloc,
-            found,
-            &cones,
-            self.hints.as_slice(),
-            &mut self.states,
-            table,
-            from,
-        )?;
-        Ok(())
-    }
-
-    #[tactic(auto, using(crate::proofs::AllLists::found_length))]
-    fn is_behind(&self, block: u32, id: u32) -> bool {
-        let cones = BlockCones {
-            places: &self.places,
-            zones: self.zones.as_slice(),
-            alike: self.alike.as_slice(),
-            tables: &self.tables,
-        };
-        has_between(&cones, block, id)
-    }
-
-    #[tactic(auto, using(crate::proofs::AllLists::found_length))]
-    fn moved(&self, block: u32) -> u32 {
-        let asked = self.not_moved.get();
-        if self.places.sparse || (asked.first <= block && block < asked.past) {
-            return 0;
-        }
-        let index = block as usize;
-        let table = self.tables.of(self.zones[index]);
-        let moved = moved_in_rows(
-            &self.places,
-            self.alike.as_slice(),
-            table.rows.as_slice(),
-            &self.hints[table.start.min(self.hints.len())..],
-            table.widest,
-            self.places.codes[index],
-            u64::from(self.alike[index]).saturating_sub(1),
-        );
-        if moved.more == 0 {
-            self.not_moved.set(Hint {
-                first: block,
-                past: block.saturating_add(moved.again.min(u64::from(u32::MAX)) as u32),
-            });
-        }
-        moved.more as u32
-    }
-
-    fn are_closed(&self) -> bool {
-        self.closed
-    }
-}
-
-/// The predecessors of each block by identifier, in rising order: the blocks of the cone above it, whose slopes and number of
-/// benches are those of the block's own zone. The plan has to have the zone of each block. Fails only where memory is refused.
+/// Returns the predecessors of each block by identifier, in ascending order: the blocks of the cone above it. The slopes and the number
+/// of benches are those of the block's zone. The plan must have the zone of each block. Fails only if memory is refused.
 pub fn preds(alloc: Global, numbering: &Numbering, plan: &Plan) -> Result<Preds, AllocError>
     requires { HasZones plan.now numbering.now.blocks }
     ensures { IfOk result (λ lists. lists ≡ preds plan.now numbering.now.blocks) }
@@ -250,7 +191,7 @@ fn zones_of(alloc: Global, blocks: &[Block]) -> Result<Vec<u8>, AllocError>
     blocks.iter().map(|block| block.zone).collect(alloc)
 }
 
-// Appends the runs of the blocks in the rows of a zone's cone, seen from the code `from`.
+// Appends the ranges of the blocks in the rows of a zone's cone, as seen from the code `from`.
 #[inline(always)]
 fn add_runs_in_cone(
     runs: &mut Vec<IdRun>,

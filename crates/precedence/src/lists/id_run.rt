@@ -1,8 +1,8 @@
-//! A run of identifiers.
+//! A range of identifiers.
 
 ghost use Rattle.std.specs.Prelude.{◌+◌, ◌<◌, ◌≤◌, ◌^◌};
 
-/// Identifiers that follow one another: `len` of them, at least one, from `first` on.
+/// A range of `len` consecutive identifiers, at least one, from `first` on.
 #[derive(Clone, Copy, Debug)]
 pub struct IdRun {
     pub first: u32,

@@ -1,12 +1,12 @@
-//! Lists of identifiers as runs, and runs as lists.
+//! Converts lists of identifiers to ranges, and ranges to lists.
 
-ghost use Rattle.std.specs.Prelude.{◌≡◌, ◌+◌, ◌<◌, ◌≤◌, ◌^◌, ◌++◌, ℕ, true, OnOk, length, map, take};
-ghost use Rattle.precedence.specs.IdRuns.{ids_of, ids_of_run, is_in};
+ghost use Rattle.std.specs.Prelude.{◌≡◌, ◌<◌, ◌≤◌, ◌++◌, OnOk, length, take};
+ghost use Rattle.precedence.specs.IdRuns.{ids_of, ids_of_run};
 
 use crate::lists::id_run::IdRun;
 use std::alloc::AllocError;
 
-/// Appends runs that tell a list of identifiers.
+/// Appends ranges that represent a list of identifiers.
 pub fn add_runs_of_ids(runs: &mut Vec<IdRun>, ids: &[u32]) -> Result<(), AllocError>
     ensures { OnOk result (ids_of runs.new.items ≡ ids_of runs.old.items ++ ids.now) }
 {
@@ -19,7 +19,7 @@ pub fn add_runs_of_ids(runs: &mut Vec<IdRun>, ids: &[u32]) -> Result<(), AllocEr
     Ok(())
 }
 
-// The identifiers that follow one another, from the front on.
+// Returns the range of the consecutive identifiers at the start of the list.
 fn front_run(ids: &[u32]) -> IdRun
     requires { 0 < length ids.now }
     ensures some { 0 < result.len }
@@ -38,29 +38,7 @@ fn front_run(ids: &[u32]) -> IdRun
     }
 }
 
-/// Appends runs of the same identifiers, each of them so much greater.
-pub fn add_moved_runs(runs: &mut Vec<IdRun>, told: &[IdRun], by: u32) -> Result<(), AllocError>
-    requires { (id : ℕ) → is_in (ids_of told.now) id ≡ true → id + by < 2 ^ 32 }
-    ensures { OnOk result (ids_of runs.new.items
-        ≡ ids_of runs.old.items ++ map (λ id. id + by) (ids_of told.now)) }
-{
-    for run in told {
-        runs.push(moved_run(*run, by))?;
-    }
-    Ok(())
-}
-
-fn moved_run(run: IdRun, by: u32) -> IdRun
-    requires { run.first + run.len + by ≤ 2 ^ 32 }
-    ensures { ids_of_run result ≡ map (λ id. id + by) (ids_of_run run) }
-{
-    IdRun {
-        first: run.first + by,
-        len: run.len,
-    }
-}
-
-/// Appends the identifiers of runs.
+/// Appends the identifiers of ranges.
 pub fn add_ids_of_runs(list: &mut Vec<u32>, runs: &[IdRun]) -> Result<(), AllocError>
     ensures { OnOk result (list.new.items ≡ list.old.items ++ ids_of runs.now) }
 {

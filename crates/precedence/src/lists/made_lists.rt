@@ -1,4 +1,4 @@
-//! Lists of predecessors that are made one at a time.
+//! Lists of predecessors that are computed lazily, one at a time.
 
 ghost use Rattle.std.specs.Prelude.{◌≡◌, ◌<◌, ◌^◌, ◌++◌, [], ℕ, List, OnOk, length, slice_index_or};
 ghost use Rattle.precedence.specs.IdRuns.{ids_of};
@@ -7,16 +7,17 @@ use crate::lists::id_run::IdRun;
 use crate::lists::pred_lists::PredLists;
 use std::alloc::AllocError;
 
-/// A list of predecessors for each block by identifier, made when it is asked for. What is found on the way is kept for those that are
-/// asked for later, and changes no list.
+/// A list of predecessors for each block by identifier, computed when it is requested. Intermediate results are stored for later
+/// requests, and change no list.
 pub trait MadeLists {
     ghost lists: { Self → List (List ℕ) };
 
-    /// The number of lists.
+    /// Returns the number of lists.
     fn count(&self) -> usize
         ensures { result ≡ length (lists self.now) };
 
-    /// Appends runs that tell the list of a block. Where memory is refused, runs that tell a part of it may be appended.
+    /// Appends ranges that represent the list of a block, which has fewer than 2^63 identifiers. The lists stay unchanged. If memory is
+    /// refused, ranges that represent a part of the list may be appended.
     fn add_runs(&mut self, runs: &mut Vec<IdRun>, id: u32) -> Result<(), AllocError>
         requires { id < length (lists self.old) }
         ensures list { OnOk result (ids_of runs.new.items
@@ -25,7 +26,7 @@ pub trait MadeLists {
         ensures countable { length (slice_index_or (lists self.old) id []) < 2 ^ 63 };
 }
 
-/// Lists that are lent, as lists that are made.
+/// A reference to lists, used as lazily computed lists.
 #[derive(Drop)]
 pub struct LentLists<'a, P: PredLists> {
     pub lent: &'a P,

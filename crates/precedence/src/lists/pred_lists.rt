@@ -1,4 +1,4 @@
-//! Lists of predecessors, whether they are kept or found.
+//! Lists of predecessors, stored or computed lazily.
 
 ghost use Rattle.std.specs.Prelude.{◌≡◌, ◌<◌, ◌^◌, ◌++◌, [], ℕ, List, OnOk, length, slice_index_or};
 ghost use Rattle.precedence.specs.IdRuns.{ids_of};
@@ -6,16 +6,17 @@ ghost use Rattle.precedence.specs.IdRuns.{ids_of};
 use crate::lists::id_run::IdRun;
 use std::alloc::AllocError;
 
-/// A list of predecessors for each block by identifier. `Preds` keeps the lists, and `FoundPreds` finds that of a block when it is
-/// asked for.
+/// A list of predecessors for each block by identifier. `Preds` stores the lists, and `FoundPreds` computes the list of a block when it
+/// is requested.
 pub trait PredLists {
     ghost lists: { Self → List (List ℕ) };
 
-    /// The number of lists.
+    /// Returns the number of lists.
     fn count(&self) -> usize
         ensures { result ≡ length (lists self.now) };
 
-    /// Appends runs that tell the list of a block. Where memory is refused, runs that tell a part of it may be appended.
+    /// Appends ranges that represent the list of a block, which has fewer than 2^63 identifiers. If memory is refused, ranges that
+    /// represent a part of the list may be appended.
     fn add_runs(&self, runs: &mut Vec<IdRun>, id: u32) -> Result<(), AllocError>
         requires { id < length (lists self.now) }
         ensures list { OnOk result (ids_of runs.new.items

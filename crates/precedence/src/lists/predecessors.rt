@@ -14,7 +14,7 @@ use std::marker::Model;
 pub struct Preds {
     // all lists, one after the other
     flat: Vec<u32>,
-    // where each list ends
+    // the end of each list
     ends: Vec<usize>,
 }
 
@@ -31,7 +31,7 @@ impl Model for Preds {
 }
 
 impl Preds {
-    /// No lists.
+    /// Returns a value without lists.
     pub fn new(alloc: Global) -> Preds
         ensures { result ≡ [] }
     {
@@ -41,7 +41,7 @@ impl Preds {
         }
     }
 
-    // The parts of `flat` up to each of the ends.
+    // Returns the lists between consecutive ends in `flat`.
     pub(crate) fn of_parts(flat: Vec<u32>, ends: Vec<usize>) -> Preds
         requires { AreEnds 0 ends.items (length flat.items) }
         ensures { result ≡ pieces flat.items 0 ends.items }
@@ -49,7 +49,7 @@ impl Preds {
         Preds { flat, ends }
     }
 
-    /// Appends the list of one more block. Where memory is refused the lists stay as they were.
+    /// Appends the list of the next block. If memory is refused, the lists stay unchanged.
     pub fn push(&mut self, list: &[u32]) -> Result<(), AllocError>
         ensures ok { OnOk result (self.new ≡ self.old ++ list.now ∷ []) }
         ensures err { OnErr result (self.new ≡ self.old) }
@@ -65,7 +65,7 @@ impl Preds {
         }
     }
 
-    /// The number of blocks that have a list.
+    /// Returns the number of blocks that have a list.
     #[tactic(auto, using(crate::proofs::Pieces::as_many_pieces))]
     pub fn len(&self) -> usize
         ensures { result ≡ length self.now }
@@ -73,7 +73,7 @@ impl Preds {
         self.ends.len()
     }
 
-    /// The number of identifiers in all lists.
+    /// Returns the number of identifiers in all lists.
     #[tactic(auto, using(crate::proofs::Pieces::arcs_are))]
     pub fn arcs(&self) -> usize
         ensures { result ≡ sum_by length self.now }
@@ -81,7 +81,7 @@ impl Preds {
         self.flat.len()
     }
 
-    /// The list of a block.
+    /// Returns the list of the block `id`.
     #[tactic(auto, using(crate::proofs::Pieces::as_many_pieces))]
     pub fn of(&self, id: u32) -> &[u32]
         requires { id < length self.now }
@@ -103,7 +103,7 @@ impl PredLists for Preds {
     }
 }
 
-// The part of `flat` up to the end at `index`.
+// Returns the part of `flat` up to the end at `index`.
 #[tactic(auto, using(crate::proofs::Pieces::parts))]
 fn piece<'a>(flat: &'a [u32], ends: &[usize], index: usize) -> &'a [u32]
     requires ends { AreEnds 0 ends.now (length flat.now) }
@@ -122,7 +122,7 @@ fn start_of_piece(ends: &[usize], index: usize) -> usize
     if index == 0 { 0 } else { ends[index - 1] }
 }
 
-// The identifiers from the place `start` up to, and without, the place `end`.
+// Returns the identifiers from the index `start` to the index `end` (exclusive).
 fn ids_between(ids: &[u32], start: usize, end: usize) -> &[u32]
     requires in_order { start ≤ end }
     requires within { end ≤ length ids.now }

@@ -1,4 +1,4 @@
-//! The identifiers of the blocks above a block, by runs.
+//! The identifiers of the blocks above a block, by ranges.
 
 ghost use Rattle.std.specs.Prelude.{◌≡◌, ℕ, ◌+◌, ◌-◌, ◌<◌, ◌≤◌, ◌++◌, OnOk, IfOk, length, slice_index};
 ghost use Rattle.std.specs.List.Sorted.{IsStrictlyIncreasing};
@@ -18,17 +18,17 @@ use crate::places::start_of::start_of;
 use std::alloc::{AllocError, Global};
 use std::cell::Cell;
 
-/// The identifiers that a row's run began and ended at, for the block that was looked at last.
+/// The start and end (exclusive) of a row's range of identifiers, for the block visited last.
 #[derive(Clone, Copy, Debug)]
 pub struct Hint {
     pub first: u32,
     pub past: u32,
 }
 
-/// What is known before the first block.
+/// The value before the first block.
 pub const NOTHING_KNOWN: Hint = Hint { first: 0, past: 0 };
 
-/// So many hints with nothing known. Fails only where memory is refused.
+/// Returns `count` hints without information. Fails only if memory is refused.
 pub fn no_hints(alloc: Global, count: usize) -> Result<Vec<Cell<Hint>>, AllocError> {
     let mut hints = Vec::with_capacity(alloc, count)?;
     for _ in 0..count {
@@ -37,9 +37,9 @@ pub fn no_hints(alloc: Global, count: usize) -> Result<Vec<Cell<Hint>>, AllocErr
     Ok(hints)
 }
 
-/// Appends the runs of the identifiers whose codes lie in the rows, seen from the code `from`, in rising order. `past` has the end of
-/// each row, and the rows are no wider than `widths`. The hints, one for each row, are guesses, such as where the rows' runs were found
-/// for a smaller code: they change the time and not the answer. `pass` tells which blocks are passed over behind an empty run.
+/// Appends the ranges of the identifiers whose codes are in the rows, as seen from the code `from`, in ascending order. `past` has the
+/// end of each row, and no row is wider than `widths`. The hints, one for each row, are guesses, such as the rows' ranges for a smaller
+/// code: they change the time and not the result. `pass` decides which blocks are passed over after an empty range.
 #[inline(never)]
 pub fn add_runs_in_rows<P: PassBlocks>(
     pass: &P,
@@ -69,7 +69,8 @@ pub fn add_runs_in_rows<P: PassBlocks>(
     Ok(())
 }
 
-/// A row's hint, but for what is before `behind`, from which on blocks are looked for: a row that was left out for long has an old one.
+/// Returns a row's hint, raised to at least `behind`, from which on blocks are looked for: the hint of a row that was passed over for
+/// long is old.
 #[inline(always)]
 pub fn hint_at(hints: &[Cell<Hint>], i: usize, behind: u32) -> Hint {
     let known = match hints.get(i) {
@@ -82,7 +83,7 @@ pub fn hint_at(hints: &[Cell<Hint>], i: usize, behind: u32) -> Hint {
     }
 }
 
-/// Keeps where a row's run was found last.
+/// Stores the last range of a row.
 #[inline(always)]
 pub fn keep_hint(hints: &[Cell<Hint>], i: usize, run: Hint) {
     if let Some(hint) = hints.get(i) {
@@ -90,7 +91,7 @@ pub fn keep_hint(hints: &[Cell<Hint>], i: usize, run: Hint) {
     }
 }
 
-// Appends the run of the identifiers whose codes lie in a row, where there are any, and tells the first of them and the one past the last.
+// Appends the range of the identifiers whose codes are in a row, if there are any, and returns its start and end (exclusive).
 #[tactic(auto, using(crate::proofs::runs::Starts::runs, crate::proofs::runs::RunLists::pushed_run))]
 #[inline(always)]
 fn add_run_in_row(
@@ -117,7 +118,7 @@ fn add_run_in_row(
     Ok(found)
 }
 
-/// The first identifier of a row's run and the one past the last. The hint is a guess.
+/// Returns the start and end (exclusive) of a row's range of identifiers. The hint is a guess.
 #[tactic(auto, using(crate::proofs::runs::Starts::runs))]
 #[inline(always)]
 pub fn find_run(places: &Places, row: Row, hint: Hint, from: u64) -> Hint
@@ -133,8 +134,8 @@ pub fn find_run(places: &Places, row: Row, hint: Hint, from: u64) -> Hint
     }
 }
 
-// Where the codes from the place `first` on are no longer below `past`. Most rows of scattered blocks have no code, and need no
-// search for it.
+// Returns the number of codes below `past`, which is at least `first`. Most rows of scattered blocks have no code, and need no search for
+// it.
 #[tactic(auto, using(crate::proofs::runs::Starts::starts))]
 #[inline(always)]
 fn end_of_run(codes: &[u64], first: usize, hint: usize, past: u64) -> usize
@@ -149,7 +150,7 @@ fn end_of_run(codes: &[u64], first: usize, hint: usize, past: u64) -> usize
     }
 }
 
-/// The first row after the row `i` that can have a code from the one of the identifier `id` on, or the number of rows.
+/// Returns the first row after the row `i` that can have a code from the code of the identifier `id` on, or the number of rows.
 #[tactic(auto, using(crate::proofs::runs::Starts::runs))]
 #[inline(always)]
 pub fn next_row(places: &Places, pasts: &[u64], i: usize, id: usize, from: u64) -> usize

@@ -1,4 +1,4 @@
-//! Lists of predecessors that come block by block.
+//! Lists of predecessors that arrive block by block.
 
 ghost use Rattle.std.specs.Prelude.{◌≡◌, ◌<◌, ◌≤◌, ◌++◌, [], ◌∷◌, ℕ, List, OnOk, length, sum_by};
 ghost use Rattle.plan_parts.specs.declared.ranges.TheConstants.{MAX_BLOCKS};
@@ -6,20 +6,20 @@ ghost use Rattle.plan_parts.specs.declared.ranges.TheConstants.{MAX_BLOCKS};
 use crate::lists::predecessors::Preds;
 use std::alloc::AllocError;
 
-/// Takes the list of one block after the other. `Preds` keeps the lists; `CountedPreds` keeps only how many identifiers stand in
-/// them.
+/// A destination for the list of each block in turn. `Preds` stores the lists; `CountedPreds` stores only the number of their
+/// identifiers.
 pub trait TakePreds {
     ghost lists: { Self → List (List ℕ) };
 
-    /// The number of lists.
+    /// Returns the number of lists.
     fn count(&self) -> usize
         ensures { result ≡ length (lists self.now) };
 
-    /// The number of identifiers in all lists.
+    /// Returns the number of identifiers in all lists.
     fn arcs(&self) -> usize
         ensures { result ≡ sum_by length (lists self.now) };
 
-    /// Takes the list of one more block. Where memory is refused the lists are of no use.
+    /// Appends the list of the next block. If memory is refused, the lists are invalid.
     fn take(&mut self, list: &Vec<u32>) -> Result<(), AllocError>
         requires few { length (lists self.old) < MAX_BLOCKS }
         requires short { length list.now.items ≤ MAX_BLOCKS }

@@ -8,16 +8,16 @@ ghost use Rattle.precedence.specs.Identifier.{blocks_of_rows};
 use plan_parts::block::Block;
 use rows::{RowLists, Valued};
 
-/// Blocks that can be numbered: each is asked for by its position in a list. Contracts see the list.
+/// Blocks that can be numbered: each has a position in a list. Contracts see the list.
 pub trait ListedBlocks {
     ghost listed: { Self → List Block };
 
-    /// The number of blocks.
+    /// Returns the number of blocks.
     fn count(&self) -> usize
         requires { length (listed self.now) ≤ MAX_BLOCKS }
         ensures { result ≡ length (listed self.now) };
 
-    /// The block at a position, from 0.
+    /// Returns the block at a position, from 0.
     fn block_at(&self, position: usize) -> Block
         requires { position < length (listed self.now) }
         ensures { slice_get (listed self.now) position ≡ Some result };

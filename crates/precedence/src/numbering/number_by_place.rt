@@ -1,4 +1,4 @@
-//! Numbering by the order of places.
+//! Numbers blocks by the order of their cells.
 
 ghost use Rattle.std.specs.Prelude.{◌≡◌, ◌≤◌, ◌<◌, ◌++◌, [], ◌∷◌, None, IfOk, IfErr, IsTrue, OnOk, All, length, map, nat_eq, slice_index_or};
 ghost use Rattle.std.specs.List.{IsDistinct};
@@ -22,18 +22,17 @@ use pit_units::OrMemory;
 use plan_parts::block::Block;
 use std::alloc::{AllocError, Global};
 
-// The place of a block, as its code, and the block's position in the list.
+// The code of a block's cell, and the block's position in the list.
 type Place = (u64, u32);
 
-// Where each place was seen first.
+// The first position of each cell.
 type Seen = IndexMap<u64, u32, PlaceHashes>;
 
-/// Numbers a list of at most 64,000,000 blocks: the identifier of a block is the number of blocks of the list with a
-/// smaller (z, y, x).
+/// Numbers a list of at most 64,000,000 blocks: the identifier of a block is the number of blocks of the list with a smaller (z, y, x).
 ///
 /// # Errors
 ///
-/// - `Same`: two blocks have the same indices; it names the first that stands again.
+/// - `Same`: two blocks have the same indices; it names the first repetition.
 /// - `OutOfMemory`: memory was refused.
 pub fn number_blocks<L: ListedBlocks>(
     alloc: Global,
@@ -49,24 +48,24 @@ pub fn number_blocks<L: ListedBlocks>(
     Ok(Numbering::new(ordered, positions))
 }
 
-// The place of each block, in order.
+// Returns the cell of each block, in order.
 fn sorted_places<L: ListedBlocks>(alloc: Global, listed: &L) -> Result<Vec<Place>, OrMemory<Same>>
     requires { length (L.listed listed.now) ≤ MAX_BLOCKS }
     ensures sorted { IfOk result (λ places. IsSortedTable (L.listed listed.now) places.items) }
     ensures same { IfErr result (IsReason (L.listed listed.now)) }
 {
     let mut places = places_of_list(alloc, listed)?;
-    // The blocks of a file mostly stand in order: this sort finds such runs.
+    // The blocks of a file are mostly in order: this sort finds such ranges.
     places.sort_by_key(|place| place.0)?;
     if rise(places.as_slice()) {
         return Ok(places);
     }
-    // Some place stands twice: the list itself tells which comes first.
+    // Some cell is listed twice: the list itself defines which repetition is first.
     require_distinct(alloc, listed)?;
     Ok(places)
 }
 
-// The place of each block, in the order of the list.
+// Returns the cell of each block, in the order of the list.
 fn places_of_list<L: ListedBlocks>(alloc: Global, listed: &L) -> Result<Vec<Place>, AllocError>
     requires { length (L.listed listed.now) ≤ MAX_BLOCKS }
     ensures { IfOk result (λ places. places.items ≡ placed 0 (L.listed listed.now)) }
@@ -80,14 +79,14 @@ fn places_of_list<L: ListedBlocks>(alloc: Global, listed: &L) -> Result<Vec<Plac
     Ok(places)
 }
 
-// Whether each place comes before the next.
+// Returns whether each cell comes before the next.
 fn rise(places: &[Place]) -> bool
     ensures { IsTrue result → IsStrictlyIncreasing (keys_of places.now) }
 {
     places.is_sorted_by(|place, next| place.0 < next.0)
 }
 
-// Finds the first block of a list whose place stood before, and fails there.
+// Fails at the first block of a list whose cell was listed before.
 fn require_distinct<L: ListedBlocks>(alloc: Global, listed: &L) -> Result<(), OrMemory<Same>>
     requires { length (L.listed listed.now) ≤ MAX_BLOCKS }
     ensures differ { OnOk result (IsDistinct nat_eq (place_codes (L.listed listed.now))) }
@@ -105,7 +104,7 @@ fn require_distinct<L: ListedBlocks>(alloc: Global, listed: &L) -> Result<(), Or
     Ok(())
 }
 
-// Notes a place, and tells where it was seen before.
+// Stores a cell's position, and returns the position stored for the cell before, if any.
 #[tactic(auto, using(crate::proofs::SeenPlaces::noted))]
 fn note(seen: &mut Seen, place: u64, position: u32) -> Result<Option<u32>, AllocError>
     ensures before { IfOk result (λ before. before ≡ get nat_eq seen.old place) }
@@ -119,14 +118,14 @@ fn note(seen: &mut Seen, place: u64, position: u32) -> Result<Option<u32>, Alloc
     }
 }
 
-// The positions, in the order of the places.
+// Returns the positions, in the order of the cells.
 fn positions_of(alloc: Global, places: Vec<Place>) -> Result<Vec<u32>, AllocError>
     ensures { IfOk result (λ positions. positions.items ≡ values_of places.items) }
 {
     places.iter().map(|place| place.1).collect(alloc)
 }
 
-// The blocks at these positions.
+// Returns the blocks at these positions.
 fn blocks_at<L: ListedBlocks>(
     alloc: Global,
     listed: &L,

@@ -1,4 +1,4 @@
-//! Numbering the blocks of rows.
+//! Numbers the blocks of rows.
 
 ghost use Rattle.std.specs.Prelude.{◌≤◌, IfOk, IfErr, length};
 ghost use Rattle.precedence.specs.Identifier.{blocks_of_rows};
@@ -13,12 +13,12 @@ use pit_units::OrMemory;
 use rows::Valued;
 use std::alloc::Global;
 
-/// Numbers the blocks of a list of at most 64,000,000 rows: the identifier of a block is the number of blocks of the
-/// list with a smaller (z, y, x).
+/// Numbers the blocks of a list of at most 64,000,000 rows: the identifier of a block is the number of blocks of the list with a smaller
+/// (z, y, x).
 ///
 /// # Errors
 ///
-/// - `Same`: two blocks have the same indices; it names the first that stands again.
+/// - `Same`: two blocks have the same indices; it names the first repetition.
 /// - `OutOfMemory`: memory was refused.
 pub fn number(alloc: Global, rows: &[Valued]) -> Result<Numbering, OrMemory<Same>>
     requires { length rows.now ≤ MAX_BLOCKS }

@@ -1,4 +1,4 @@
-//! Hashes of places, which depend on the whole list.
+//! Hashes of cells, which depend on the whole list.
 
 ghost use Rattle.std.specs.Prelude.{◌≤◌, length};
 ghost use Rattle.plan_parts.specs.declared.ranges.TheConstants.{MAX_BLOCKS};
@@ -7,16 +7,15 @@ use crate::numbering::listed_blocks::ListedBlocks;
 use crate::places::code::code;
 use std::hash::{BuildHasher, DefaultHasher, Hasher};
 
-/// Hashes of places that begin with the places of a whole list: where one block of it is changed, all hashes change.
-/// This is meant to make it hard to choose blocks whose places have like hashes. No proof says so, and only the time of
-/// a search rests on it.
+/// Hashes that begin with the cells of a whole list: if one block of the list changes, all hashes change. This is meant to make it hard
+/// to choose blocks whose cells have similar hashes. No proof guarantees it, and only the time of a search depends on it.
 #[derive(Clone, Copy)]
 pub struct PlaceHashes {
     beginning: DefaultHasher,
 }
 
 impl PlaceHashes {
-    /// The hashes of places that begin with those of these blocks.
+    /// Returns hashes that begin with the cells of these blocks.
     pub fn of<L: ListedBlocks>(listed: &L) -> PlaceHashes
         requires { length (L.listed listed.now) ≤ MAX_BLOCKS }
     {

@@ -1,4 +1,4 @@
-//! One number for a block's place, in the order of identifiers.
+//! A linear index for each cell, in the order of identifiers.
 
 ghost use Rattle.std.specs.Prelude.{◌≡◌, ◌<◌};
 ghost use Rattle.precedence.specs.Codes.{place_code};
@@ -6,16 +6,16 @@ ghost use Rattle.precedence.specs.declared.places.code.TheConstants.{CODES};
 
 use plan_parts::block::Block;
 
-/// How far apart the numbers of two rows of a bench are.
+/// The distance between the codes of two neighbouring rows of a bench.
 pub const ROW: u64 = 100_000;
 
-/// How far apart the numbers of two benches are.
+/// The distance between the codes of two neighbouring benches.
 pub const BENCH: u64 = 10_000_000_000;
 
-/// What the number of each place is below.
+/// The upper bound (exclusive) of all codes.
 pub const CODES: u64 = 100_000_000_000_000;
 
-/// The number of a block's place.
+/// Returns the code of a block's cell.
 #[inline(always)]
 pub fn code(block: &Block) -> u64
     ensures value { result ≡ place_code block.now }

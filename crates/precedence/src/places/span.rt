@@ -1,9 +1,9 @@
-//! Where some blocks lie along x. Definitions name this type, and so no function stands beside it.
+//! The span of blocks along x. Definitions name this type, so this module has no functions.
 
 ghost use Rattle.std.specs.Prelude.{◌<◌};
 ghost use Rattle.plan_parts.specs.declared.ranges.TheConstants.{GRID_CELLS};
 
-/// The least and the greatest x of some blocks.
+/// The smallest and largest x of a set of blocks.
 #[derive(Clone, Copy, Debug)]
 pub struct Span {
     pub west: u16,

@@ -1,4 +1,4 @@
-//! Where blocks lie along x, some identifiers at a time.
+//! The spans of blocks along x, by chunks of identifiers.
 
 ghost use Rattle.std.specs.Prelude.{◌≡◌, ◌<◌, ◌≤◌, ℕ, IfOk, length, slice_index_or};
 ghost use Rattle.plan_parts.specs.declared.block.Block.{Block};
@@ -11,16 +11,16 @@ use plan_parts::block::Block;
 use plan_parts::ranges::GRID_CELLS;
 use std::alloc::{AllocError, Global};
 
-/// So many identifiers have a span.
+/// The number of identifiers that share a span.
 pub const CHUNK: usize = 64;
 
-/// So many rows are passed over with each chunk, or more: to look at a row takes hardly longer than to look at a chunk.
+/// The number of rows that must be passed over with each chunk: looking at a row takes hardly longer than looking at a chunk.
 pub const FEW_ROWS: usize = 8;
 
-// So many chunks go past a few rows of blocks where it is worth to ask for them.
+// More chunks than this must extend over several rows for passing over to pay.
 const MANY: usize = 16;
 
-/// Whether many chunks go past a few rows of blocks of one bench, so that blocks can be passed over.
+/// Returns whether many chunks extend over `FEW_ROWS` rows or more of one bench, so that blocks can be passed over.
 pub fn is_sparse(codes: &[u64]) -> bool {
     let mut thin = 0usize;
     for k in 0..codes.len() / CHUNK {
@@ -33,7 +33,7 @@ pub fn is_sparse(codes: &[u64]) -> bool {
     thin > MANY
 }
 
-/// The spans of blocks, of 64 each.
+/// Returns the span of each chunk of blocks.
 pub fn spans_of(alloc: Global, blocks: &[Block]) -> Result<Vec<Span>, AllocError>
     ensures { IfOk result (λ spans. AreSpans spans.items (place_codes blocks.now)) }
 {

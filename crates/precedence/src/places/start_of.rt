@@ -1,11 +1,11 @@
-//! Finding a place in rising numbers, near a place known before.
+//! Searches ascending numbers from a hint on.
 
 ghost use Rattle.std.specs.Prelude.{◌≡◌, ◌+◌, ◌<◌, ◌≤◌, IsTrue, length};
 ghost use Rattle.std.specs.List.Sorted.{IsStrictlyIncreasing};
 ghost use Rattle.precedence.specs.inner.Rows.{start_of};
 
-/// How many of the rising numbers are below `target`. `hint` is a guess: it changes the time and not the answer. The
-/// search is fastest where the hint is one less than the answer, and fast where it is somewhat less.
+/// Returns the number of ascending numbers below `target`. `hint` is a guess: it changes the time and not the result. The search is
+/// fastest if the hint is one less than the result, and fast if it is slightly less.
 #[inline(always)]
 pub fn start_of(numbers: &[u64], hint: usize, target: u64) -> usize
     requires { IsStrictlyIncreasing numbers.now }
@@ -19,7 +19,7 @@ pub fn start_of(numbers: &[u64], hint: usize, target: u64) -> usize
     place_by_halving(numbers, low, high, target)
 }
 
-/// Whether the number at the hint is the last below the target, and another follows: mostly so for the next block of a row.
+/// Returns whether the number at the hint is the last below the target, and another follows, as is mostly so for the next block of a row.
 #[tactic(auto, using(crate::proofs::runs::Starts::starts))]
 #[inline(always)]
 pub fn is_last_below(numbers: &[u64], hint: usize, target: u64) -> bool
@@ -30,7 +30,7 @@ pub fn is_last_below(numbers: &[u64], hint: usize, target: u64) -> bool
     hint < numbers.len().saturating_sub(1) && numbers[hint] < target && target <= numbers[hint + 1]
 }
 
-// The hint, where all numbers before it are below the target, or 0.
+// Returns the hint if all numbers before it are below the target, else 0.
 #[tactic(auto, using(crate::proofs::runs::Starts::starts))]
 #[inline(always)]
 fn checked_hint(numbers: &[u64], hint: usize, target: u64) -> usize
@@ -44,7 +44,7 @@ fn checked_hint(numbers: &[u64], hint: usize, target: u64) -> usize
     }
 }
 
-// Bounds of the place from `low` on, by steps that double.
+// Returns bounds of the result from `low` on, by steps that double.
 #[tactic(auto, using(crate::proofs::runs::Starts::starts))]
 #[inline(always)]
 fn bounds_by_doubling(numbers: &[u64], low: usize, target: u64) -> (usize, usize)
@@ -63,7 +63,7 @@ fn bounds_by_doubling(numbers: &[u64], low: usize, target: u64) -> (usize, usize
     (low, numbers.len().min(low.saturating_add(step - 1)))
 }
 
-// The place between two bounds, by halving.
+// Returns the result between two bounds, by halving.
 #[tactic(auto, using(crate::proofs::runs::Starts::starts))]
 #[inline(always)]
 fn place_by_halving(numbers: &[u64], low: usize, high: usize, target: u64) -> usize

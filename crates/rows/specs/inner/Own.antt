@@ -5,7 +5,7 @@ use Rattle.rows.specs.Packed.{row_of}
 use Rattle.rows.specs.declared.item.Item.{Item}
 use Rattle.rows.specs.declared.item.Valued.{Valued}
 use Rattle.rows.specs.declared.packed.worths.PackedWorths.{PackedWorths}
-use Rattle.rows.specs.SpotView.{SpotView}
+use Rattle.rows.specs.ItemRefView.{ItemRefView}
 
 -- the worths at a position
 abbrev pub own_at : PackedWorths → ℕ → List ℤ
@@ -21,9 +21,9 @@ HasWorths items list = (position : ℕ) (row : Valued) → row_of items position
     → (row.worths ≡ own_at list position) × AreThere list position
 
 -- the worths at a position of these lists
-abbrev pub own_on : List PackedWorths → SpotView → List ℤ
-own_on lists spot = unwrap_or (option_map (λ list. own_at list spot.position) (slice_get lists spot.list)) []
+abbrev pub own_on : List PackedWorths → ItemRefView → List ℤ
+own_on lists item_ref = unwrap_or (option_map (λ list. own_at list item_ref.position) (slice_get lists item_ref.list)) []
 
 -- there are worths at this position
-abbrev pub HasOwn : List PackedWorths → SpotView → Type 0
-HasOwn lists spot = (list : PackedWorths) × (slice_get lists spot.list ≡ Some list) × AreThere list spot.position
+abbrev pub HasOwn : List PackedWorths → ItemRefView → Type 0
+HasOwn lists item_ref = (list : PackedWorths) × (slice_get lists item_ref.list ≡ Some list) × AreThere list item_ref.position

@@ -2,11 +2,11 @@
 
 ghost use Rattle.std.specs.Prelude.{◌≡◌, ◌≤◌, ℕ, ℤ, List, Some, None, length};
 ghost use Rattle.plan_parts.specs.declared.ranges.TheConstants.{MAX_DESTINATIONS};
-ghost use Rattle.rows.specs.Packed.{mark_of};
+ghost use Rattle.rows.specs.Packed.{key_of};
 ghost use Rattle.rows.specs.inner.Entries.{item_with};
 
 use crate::item::{Item, Valued};
-use crate::mark::Mark;
+use crate::item_key::ItemKey;
 use crate::worths::Worths;
 use plan_parts::block::Block;
 use plan_parts::ranges::MAX_ZONES;
@@ -97,16 +97,16 @@ impl Entry {
     }
 
     /// Returns the item's mark: the item without a block and worths.
-    pub fn mark(&self) -> Mark
-        ensures { (own : List ℤ) → result ≡ mark_of (item_with own self.now) }
+    pub fn item_key(&self) -> ItemKey
+        ensures { (own : List ℤ) → result ≡ key_of (item_with own self.now) }
     {
         if self.zone < MAX_ZONES {
-            Mark::Row {
+            ItemKey::Row {
                 file: self.file,
                 place: self.number,
             }
         } else {
-            Mark::End {
+            ItemKey::End {
                 file: self.file,
                 rows: self.number,
             }

@@ -4,15 +4,15 @@ ghost use Rattle.std.specs.Prelude.{◌≡◌, ◌+◌, ◌<◌, ◌≤◌, ◌+
 ghost use Rattle.std.specs.Option.{option_map};
 ghost use Rattle.plan_parts.specs.formulas.WorthRange.{IsWorth};
 ghost use Rattle.plan_parts.specs.declared.ranges.TheConstants.{MAX_DESTINATIONS};
-ghost use Rattle.rows.specs.Packed.{mark_of, row_of, AreWorths};
+ghost use Rattle.rows.specs.Packed.{key_of, row_of, AreWorths};
 ghost use Rattle.rows.specs.ItemsView.{IsFullFor};
 ghost use Rattle.rows.specs.inner.Entries.{item_with};
 ghost use Rattle.rows.specs.inner.Own.{HasWorths};
 
 use crate::item::Item;
+use crate::item_key::ItemKey;
 use crate::keeps::Keeps;
 use crate::long_lists::make_room_for;
-use crate::mark::Mark;
 use crate::packed::entry::Entry;
 use crate::packed::worths::{PackedWorths, worths_of_item};
 use crate::worths::{MAX_WORTHS, Worths};
@@ -86,11 +86,11 @@ impl<A: Allocator> PackedItems<A> {
 
     /// Returns the mark of the item at a position, from 0.
     #[tactic(auto, using(crate::proofs::Entries::entries))]
-    pub fn mark_at(&self, position: usize) -> Mark
+    pub fn key_at(&self, position: usize) -> ItemKey
         requires { position < length self.now.items }
-        ensures { option_map mark_of (slice_get self.now.items position) ≡ Some result }
+        ensures { option_map key_of (slice_get self.now.items position) ≡ Some result }
     {
-        self.entries[position].mark()
+        self.entries[position].item_key()
     }
 
     /// Returns the block of the row at a position, from 0, or `None` if the item there is no row.

@@ -1,4 +1,4 @@
-//! The end of a run: what is written where, and the status.
+//! The end of a run: its outputs and its exit status.
 
 use command_io::refused::status::{DEVICE, REFUSED, RESOURCES, finish};
 use devices::sinks::write_sink::WriteSink;
@@ -6,8 +6,8 @@ use std::alloc::Global;
 use std::io::{self, ErrorKind, Write};
 use std::process::ExitCode;
 
-// An output with room for so many bytes, which takes one byte a write, behind a write that is interrupted. Once it is full a write fails,
-// or takes no byte.
+// An output with a capacity of `room` bytes, which takes one byte a write, each after a write that is interrupted. If it is full, a
+// write fails or takes no byte.
 #[derive(Drop)]
 struct Narrow {
     held: Vec<u8>,
@@ -54,7 +54,7 @@ impl Write for Narrow {
     }
 }
 
-// How a run ends: its status, the line that it left, the room of both outputs, and then what is answered and what they hold.
+// The end of a run: its status and its line, the capacity of both outputs; and then the exit status and the bytes of both.
 struct End {
     status: u8,
     line: &'static [u8],
@@ -124,7 +124,7 @@ const ENDS: [End; 7] = [
         output: b"",
         errors: LINE,
     },
-    // No line is want of memory.
+    // An empty line means that memory was refused.
     End {
         status: RESOURCES,
         line: b"",

@@ -1,4 +1,4 @@
-//! The commands on files: what `compile` and `check` append, and their statuses.
+//! The commands on files: what `compile` and `check` append, and their exit statuses.
 
 use crate::tests::models::destinations_of;
 use crate::tests::watch::{OPEN, Watch};
@@ -20,10 +20,10 @@ const MILL: &[u8] =
 
 const ORE: &[u8] = b"x,y,z,tonnes,grade\n0,0,0,1000,5000\n";
 
-// A status, and what was appended to the output and to the errors.
+// An exit status, and what was appended to the output and to the errors.
 type Answer = (u8, Vec<u8>, Vec<u8>);
 
-// Compiles the plan of a mill and the zone file at a path, to files at this base.
+// Compiles the plan of a mill and the zone file at a path to files at this base.
 fn compiled<R: Files + Threads + Wait + Sync>(
     rt: &R,
     alloc: Global,
@@ -71,7 +71,7 @@ fn is_answer((status, out, err): &Answer, wanted: (u8, &str, &str)) -> bool {
         && err.as_slice() == wanted.2.as_bytes()
 }
 
-// A folder of an earlier program has no CPIT file.
+// A folder of an earlier version has no CPIT file.
 #[test]
 fn failing_devices(rt: HostRuntime) -> Result<(), Fail> {
     let alloc = rt.alloc();
@@ -90,7 +90,7 @@ fn failing_devices(rt: HostRuntime) -> Result<(), Fail> {
     Ok(())
 }
 
-// Whether the file at a path cannot be opened.
+// Returns whether the file at a path cannot be opened.
 fn is_closed<R: Files>(rt: &R, path: &str) -> bool {
     FileFeed::open(&mut SystemFiles::new(rt), path).is_err()
 }

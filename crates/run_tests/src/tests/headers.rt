@@ -1,11 +1,11 @@
-//! The headers of model files, and the titles of their sections: no other module here spells them. What is printed of one block stands in
-//! full, so that the macros are tried by texts that are written by hand.
+//! The headers of model files, and the titles of their sections: no other module here has them. The print of one block is written
+//! out, so that the macros are compared with a text that was written manually.
 
-/// What the pipe form prints of one block of ore at a mill.
+/// What the pipe form prints for one block of ore with a mill.
 pub const PRINTED: &str =
     "== blocks\n0 0 0 0 1000 5000 0\n== prec\n0 0\n== upit\nNAME: one\nTYPE: UPIT\nNBLOCKS: 1\nOBJECTIVE_FUNCTION:\n0 12000\n== pcpsp\nNAME: one\nTYPE: PCPSP\nNBLOCKS: 1\nNPERIODS: 1\nNDESTINATIONS: 1\nNRESOURCE_SIDE_CONSTRAINTS: 0\nNGENERAL_SIDE_CONSTRAINTS: 0\nDISCOUNT_RATE: 0.1\nOBJECTIVE_FUNCTION:\n0 12000\nRESOURCE_CONSTRAINT_COEFFICIENTS:\nRESOURCE_CONSTRAINT_LIMITS:\n== cpit\nNAME: one\nTYPE: CPIT\nNBLOCKS: 1\nNPERIODS: 1\nNRESOURCE_SIDE_CONSTRAINTS: 0\nDISCOUNT_RATE: 0.1\nOBJECTIVE_FUNCTION:\n0 12000\nRESOURCE_CONSTRAINT_COEFFICIENTS:\nRESOURCE_CONSTRAINT_LIMITS:\n";
 
-// The text of a UPIT, by the values of its header and the lines of its section.
+// The text of a UPIT, from the values of its header and the lines of its section.
 macro_rules! upit {
     {
         name: $name:literal,
@@ -21,7 +21,7 @@ macro_rules! upit {
     };
 }
 
-// That of a PCPSP.
+// The text of a PCPSP.
 macro_rules! pcpsp {
     {
         name: $name:literal,
@@ -50,7 +50,7 @@ macro_rules! pcpsp {
     };
 }
 
-// That of a CPIT.
+// The text of a CPIT.
 macro_rules! cpit {
     {
         name: $name:literal,

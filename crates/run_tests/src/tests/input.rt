@@ -1,7 +1,7 @@
 //! An input that is interrupted, ends or fails.
 
 use command_io::input::read_source;
-use command_io::refused::fault_line::tell;
+use command_io::refused::fault_line::report;
 use command_io::refused::source::Source;
 use devices::feeds::read_feed::ReadFeed;
 use std::alloc::Global;
@@ -11,7 +11,7 @@ use std::io::{ErrorKind, Read};
 const INPUT: &[u8] =
     b"name,one\ngrid,0,0,0,10,10,10\nzone,1,1,1\ndump,dump,200\nperiods,1\nrate,0.1\n--\nx,y,z\n";
 
-// Gives a byte a read, each behind a read that is interrupted, and then ends or fails.
+// An input that gives one byte a read, each after a read that is interrupted, and then ends or fails.
 #[derive(Drop)]
 struct Interrupted {
     left: &'static [u8],
@@ -45,14 +45,14 @@ fn input_that(fails: bool) -> Interrupted {
     }
 }
 
-// The bytes of the input, behind the status 0; or the status of its refusal and the line.
+// Returns the status 0 and the bytes of the input; or the status and the line of its error.
 fn whole_or_refused(alloc: Global, fails: bool) -> (u8, Vec<u8>) {
     let mut feed = ReadFeed::new(input_that(fails));
     match read_source(alloc, &mut feed, Source::Input, 1_000) {
         Ok(bytes) => (0, bytes),
         Err(refused) => {
             let mut lines = Vec::new(alloc);
-            (tell(alloc, &refused, &mut lines), lines)
+            (report(alloc, &refused, &mut lines), lines)
         }
     }
 }

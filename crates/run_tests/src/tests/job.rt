@@ -1,4 +1,4 @@
-//! The job that the words of a command line state.
+//! The job that the arguments of a command line state.
 
 use command_lines::job::{Job, JobFault};
 use command_lines::stated_job::job;
@@ -6,18 +6,19 @@ use pit_compile::settings::Settings;
 use std::alloc::Global;
 use std::test::Fail;
 
-// The words, cut at blanks.
-fn words_of(alloc: Global, line: &str) -> Result<Vec<String>, Fail> {
-    let mut words = Vec::new(alloc);
+// Splits the arguments at blanks.
+fn arguments_of(alloc: Global, line: &str) -> Result<Vec<String>, Fail> {
+    let mut arguments = Vec::new(alloc);
     for word in line.split(' ') {
-        words.push(String::from_str(alloc, word)?)?;
+        arguments.push(String::from_str(alloc, word)?)?;
     }
-    Ok(words)
+    Ok(arguments)
 }
 
-// The valuers, the capacity and the number of zone files of the job that the words state, or the status of the fault.
-fn stated(alloc: Global, words: &[String]) -> Result<(usize, usize, usize), i32> {
-    match job(alloc, words) {
+// Returns the valuers, the capacity and the number of zone files of the job that the arguments state, or the exit status of the
+// error.
+fn stated(alloc: Global, arguments: &[String]) -> Result<(usize, usize, usize), i32> {
+    match job(alloc, arguments) {
         Ok(
             Job::Compile {
                 settings: Settings { valuers, capacity },
@@ -41,15 +42,18 @@ fn settings_and_words(rt: HostRuntime) -> Result<(), Fail> {
         ),
         ("pitc compile --plan p --out b --valuers 65 z", Err(2)),
     ] {
-        let words = words_of(rt.alloc(), line)?;
-        assert!(rt; stated(rt.alloc(), words.as_slice()) == wanted, "{line}");
+        let arguments = arguments_of(rt.alloc(), line)?;
+        assert!(rt;
+            stated(rt.alloc(), arguments.as_slice()) == wanted,
+            "{line}"
+        );
     }
     Ok(())
 }
 
-// Whether the words state that one zone file is compiled, with the settings that hold where none are given.
-fn compiles_one(alloc: Global, words: &[String]) -> bool {
-    match job(alloc, words) {
+// Returns whether the arguments state that one zone file is compiled, with the default settings.
+fn compiles_one(alloc: Global, arguments: &[String]) -> bool {
+    match job(alloc, arguments) {
         Ok(
             Job::Compile {
                 plan,
@@ -67,19 +71,19 @@ fn compiles_one(alloc: Global, words: &[String]) -> bool {
     }
 }
 
-fn checks(alloc: Global, words: &[String]) -> bool {
-    match job(alloc, words) {
+fn checks(alloc: Global, arguments: &[String]) -> bool {
+    match job(alloc, arguments) {
         Ok(Job::Check { base }) => base.as_str() == "b",
         _ => false,
     }
 }
 
-// Each word is taken for what it is.
+// Each argument is used for its purpose.
 #[test]
-fn words_of_jobs(rt: HostRuntime) -> Result<(), Fail> {
-    let words = words_of(rt.alloc(), "pitc compile --plan p --out b z")?;
-    assert!(rt; compiles_one(rt.alloc(), words.as_slice()));
-    let words = words_of(rt.alloc(), "pitc check b")?;
-    assert!(rt; checks(rt.alloc(), words.as_slice()));
+fn arguments_of_jobs(rt: HostRuntime) -> Result<(), Fail> {
+    let arguments = arguments_of(rt.alloc(), "pitc compile --plan p --out b z")?;
+    assert!(rt; compiles_one(rt.alloc(), arguments.as_slice()));
+    let arguments = arguments_of(rt.alloc(), "pitc check b")?;
+    assert!(rt; checks(rt.alloc(), arguments.as_slice()));
     Ok(())
 }

@@ -1,4 +1,4 @@
-//! The lines of refused plans and runs, with their statuses, and what the pipe form prints.
+//! The lines and exit statuses of plans and runs that fail, and what the pipe form prints.
 
 use crate::tests::headers::PRINTED;
 use crate::tests::models::destinations_of;
@@ -20,10 +20,10 @@ use zone_csv::row_fault::{Column, RowFault, RowFaultKind};
 const MILL: &[u8] =
     b"name,one\ngrid,0,0,0,10,10,10\nzone,1,1,1\nmill,mill,900,600,1500\nperiods,1\nrate,0.1\n";
 
-// What stands in a vector before a call.
+// The bytes of a vector before a call.
 const BEFORE: &[u8] = b"before\n";
 
-// The number of rows or the refusal of the pipe form on a plan and a zone file, and then what the vector holds.
+// Returns the number of rows or the error of the pipe form for a plan and a zone file, and then the vector's bytes.
 fn piped<R: Threads + Wait + Sync>(
     rt: &R,
     alloc: Global,
@@ -54,7 +54,7 @@ fn one_ore_block(rt: HostRuntime) -> Result<(), Fail> {
     Ok(())
 }
 
-// The status of a refusal, and its line behind what stood before.
+// Returns the status of an error, and its line after the earlier bytes.
 fn line_of(alloc: Global, refusal: &Refusal) -> Result<(u8, Vec<u8>), Fail> {
     let mut lines = BEFORE.to_vec(alloc)?;
     let status = refusal_line(alloc, refusal, &mut lines)?;
@@ -75,7 +75,7 @@ const LATE: Refusal = Refusal::Row {
     },
 };
 
-// Refusals, their statuses, and their lines.
+// Errors, their statuses, and their lines.
 const LINES: [(Refusal, u8, &[u8]); 8] = [
     (
         REPEATED,
@@ -123,7 +123,7 @@ fn lines_of_refusals(rt: HostRuntime) -> Result<(), Fail> {
     Ok(())
 }
 
-// The status of a refused plan, or 0, and its line behind what stood before.
+// Returns the status of an invalid plan, or 0, and its line after the earlier bytes.
 fn plan_line(alloc: Global, text: &[u8]) -> Result<(u8, Vec<u8>), Fail> {
     let mut lines = BEFORE.to_vec(alloc)?;
     let status = match plan_from(alloc, text, &mut lines) {

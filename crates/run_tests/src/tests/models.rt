@@ -1,7 +1,7 @@
 //! What tests of whole models share.
 
 ghost use Rattle.std.specs.Prelude.{◌≡◌};
-ghost use Rattle.plan_parts.specs.formulas.Formula.{IsRuled};
+ghost use Rattle.plan_parts.specs.formulas.Formula.{IsFormulaInRange};
 ghost use Rattle.plan_parts.specs.formulas.Worth.{worth};
 
 use crate::tests::watch::Watched;
@@ -13,7 +13,7 @@ use std::alloc::Global;
 use std::sync::Arc;
 use std::test::Fail;
 
-/// The destinations of a plan, in its order. Their closures tell the watch of each block before they value it.
+/// Returns the destinations of a plan, in order. Their closures report each worth to the watch before they compute it.
 pub fn destinations_of(
     alloc: Global,
     plan: &Plan,
@@ -27,17 +27,17 @@ pub fn destinations_of(
 }
 
 fn destination_of(alloc: Global, formula: &Formula, watch: &Watched) -> Result<Destination, Fail>
-    requires { IsRuled formula.now }
+    requires { IsFormulaInRange formula.now }
 {
     let kept = formula.copy(alloc)?;
-    let told = Arc::clone(watch)?;
+    let reported = Arc::clone(watch)?;
     let valuer: Valuer = Box::new(
         alloc,
         move |block: Block| -> i128
-            requires { IsRuled kept }
+            requires { IsFormulaInRange kept }
             ensures { result ≡ worth kept block }
         {
-            told.value();
+            reported.value();
             kept.worth(block)
         },
     )?;

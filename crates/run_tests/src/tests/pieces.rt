@@ -27,7 +27,7 @@ fn is_cut(alloc: Global, (input, plan, zones): &Cut) -> Result<bool, AllocError>
     Ok(pieces.plan() == *plan && are_zones(pieces.zones(), *zones))
 }
 
-// How many zone files a cut makes that makes so many at most.
+// Returns the number of zone files of a cut that makes at most `most`.
 fn count_at_most(alloc: Global, input: &[u8], most: usize) -> Result<Option<usize>, AllocError> {
     match cut_at_most(alloc, input, most)? {
         Some(pieces) => Ok(Some(pieces.zones().len())),
@@ -51,7 +51,7 @@ fn pieces_of_inputs(rt: HostRuntime) -> Result<(), Fail> {
     Ok(())
 }
 
-// A million pieces, and one more than there may be.
+// A million zone files, with that maximum and with a maximum that is smaller by 1.
 #[test]
 fn a_million_pieces(rt: HostRuntime) -> Result<(), Fail> {
     let input = lines_of_hyphens(rt.alloc(), 1_000_000)?;

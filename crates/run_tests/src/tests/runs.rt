@@ -23,10 +23,10 @@ mod random_runs;
 mod refused_runs;
 mod schedules;
 
-// The first record of each zone file.
+// The header of each zone file.
 const HEADER: &[u8] = b"x,y,z,tonnes,grade\n";
 
-// As many starts as `run` is given.
+// The number of starts that `run` allows.
 const ENOUGH: u32 = 128;
 
 // Plans without their zones.
@@ -34,7 +34,7 @@ const MILL: &[u8] = b"name,one\ngrid,0,0,0,10,10,10\nmill,mill,900,600,1500\nper
 
 const DUMP: &[u8] = b"name,one\ngrid,0,0,0,10,10,10\ndump,dump,200\nperiods,1\nrate,0.1\n";
 
-// The text of a plan with so many zones of one slope.
+// Returns the text of a plan with `zones` zones of one slope.
 fn plan_text(alloc: Global, plan: &[u8], zones: usize) -> Result<Vec<u8>, Fail> {
     let mut text = plan.to_vec(alloc)?;
     for _zone in 0..zones {
@@ -48,13 +48,13 @@ fn plan_of(alloc: Global, plan: &[u8], zones: usize) -> Result<Plan, Fail> {
     Ok(read_plan(alloc, text.as_slice())?)
 }
 
-// The destinations of a plan.
+// Returns the destinations of a plan.
 fn destinations_by(alloc: Global, plan: &[u8], watch: &Watched) -> Result<Vec<Destination>, Fail> {
     let plan = plan_of(alloc, plan, 1)?;
     destinations_of(alloc, &plan, watch)
 }
 
-// The sink of a text.
+// Returns the sink of a text.
 fn sink_of(sinks: &Sinks<MemSink>, name: TextName) -> &MemSink {
     match name {
         TextName::Blocks => &sinks.blocks,
@@ -65,7 +65,7 @@ fn sink_of(sinks: &Sinks<MemSink>, name: TextName) -> &MemSink {
     }
 }
 
-// Sinks in memory that were not begun.
+// Returns sinks in memory that were not begun.
 fn new_sinks(alloc: Global) -> Sinks<MemSink> {
     Sinks {
         blocks: MemSink::new(alloc),
@@ -76,7 +76,7 @@ fn new_sinks(alloc: Global) -> Sinks<MemSink> {
     }
 }
 
-// Which sinks were begun, in the order of writing.
+// Returns which sinks were begun, in the order of writing.
 fn begun(sinks: &Sinks<MemSink>) -> [bool; 5] {
     [
         sinks.blocks.begun(),
@@ -87,7 +87,7 @@ fn begun(sinks: &Sinks<MemSink>) -> [bool; 5] {
     ]
 }
 
-// A zone file: its rows, and which pull fails, or 0.
+// A zone file: its rows, and the pull that fails, or 0.
 type ZoneFile = (&'static str, u64);
 
 const ORE: ZoneFile = ("0,0,0,1,0\n", 0);
@@ -104,7 +104,7 @@ fn feed_of(alloc: Global, rows: &str, failing: u64) -> Result<MemFeed, Fail> {
     })
 }
 
-// A feed of each of these files, so many times over.
+// Returns a feed for each of these files, `times` times over.
 fn feeds_of(alloc: Global, files: &[ZoneFile], times: usize) -> Result<Vec<MemFeed>, Fail> {
     let mut feeds = Vec::new(alloc);
     for _time in 0..times {
@@ -115,7 +115,7 @@ fn feeds_of(alloc: Global, files: &[ZoneFile], times: usize) -> Result<Vec<MemFe
     Ok(feeds)
 }
 
-// How a run went: its number of rows or its refusal.
+// Returns the result of a run: its number of rows or its error.
 fn rows_of_run<R: Threads + Wait + Sync, F: Feed + Send + Drop>(
     rt: &R,
     alloc: Global,
@@ -140,7 +140,7 @@ fn rows_of_run<R: Threads + Wait + Sync, F: Feed + Send + Drop>(
     Ok(gathered.rows())
 }
 
-// How a run goes on the plan of a mill with so many zones, with the destinations of this one.
+// Returns the result of a run on the plan of a mill with `zones` zones, with the destinations of the plan `valued_by`.
 fn answer<R: Threads + Wait + Sync, F: Feed + Send + Drop>(
     rt: &R,
     alloc: Global,

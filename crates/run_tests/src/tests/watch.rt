@@ -1,4 +1,4 @@
-//! What a run calls: its gate, the closures of its destinations, and a feed.
+//! The calls of a run: its gate, the closures of its destinations, and a feed.
 
 use devices::feeds::feed::{Feed, FeedFault};
 use std::alloc::Global;
@@ -7,8 +7,8 @@ use std::sync::{Arc, Wait};
 use std::test::Fail;
 use valuers::Gate;
 
-/// What is to wait, and for how much: a row until `rows` has come to this number, the reader of file 0 likewise, a value until `values`
-/// has. Rows and readers turn in place besides, for a while of at most so many turns.
+/// What waits, and for what: a row or the reader of file 0 until `rows` has reached a number, a value until `values` has reached a
+/// number. If `turns` is not 0, rows and readers also spin, for fewer than 4096 turns.
 #[derive(Clone, Copy, Drop)]
 pub struct Holds {
     pub row: u64,
@@ -25,25 +25,25 @@ pub const OPEN: Holds = Holds {
     turns: 0,
 };
 
-/// Counts what a run calls, and holds some of the calls.
+/// Counts the calls of a run, and delays some of them.
 #[derive(Drop)]
 pub struct Watch {
     holds: Holds,
-    /// 16^place for each row of file 0 that the gate was told of, and 16^(place + 8) for each of file 1.
+    /// 16^place for each row of file 0 for which the gate was called, and 16^(place + 8) for each row of file 1.
     pub rows: AtomicU64,
     /// 16^valuer for each row.
     pub valuers: AtomicU64,
-    /// 1, 10 and 100 for each reader of files 0, 1 and 2 that the gate was told of, and 1000 for each other one.
+    /// 1, 10 and 100 for the readers of files 0, 1 and 2 for which the gate was called, and 1000 for each other reader.
     pub readers: AtomicU64,
-    /// One for each row that the gate was told of.
-    pub told: AtomicU64,
-    /// One for each worth that was asked for.
+    /// 1 for each row for which the gate was called.
+    pub reported: AtomicU64,
+    /// 1 for each worth that was requested.
     pub values: AtomicU64,
-    /// One for each pull.
+    /// 1 for each pull.
     pub pulls: AtomicU64,
-    /// One for each worth and each pull that came before the gate was told of its row or its reader.
+    /// 1 for each worth and each pull before the gate was called for its row or its reader.
     pub early: AtomicU64,
-    /// One for each wait that was given up.
+    /// 1 for each wait that was given up.
     pub late: AtomicU64,
     turned: AtomicU64,
 }
@@ -51,22 +51,22 @@ pub struct Watch {
 /// A watch that the closures and the feed of a run share with the test.
 pub type Watched = Arc<Watch, Global>;
 
-// How often a call looks before it gives up: a good run never comes to it.
+// The number of tests before a wait is given up. A correct run never reaches it.
 const TURNS: u64 = 1_000_000_000;
 
 impl Watch {
-    /// A watch that was told of nothing.
+    /// Makes a watch before any call.
     pub fn new(alloc: Global, holds: Holds) -> Result<Watched, Fail> {
-        Ok(Arc::new(alloc, Watch::told_nothing(holds))?)
+        Ok(Arc::new(alloc, Watch::reported_nothing(holds))?)
     }
 
-    fn told_nothing(holds: Holds) -> Watch {
+    fn reported_nothing(holds: Holds) -> Watch {
         Watch {
             holds,
             rows: AtomicU64::new(0),
             valuers: AtomicU64::new(0),
             readers: AtomicU64::new(0),
-            told: AtomicU64::new(0),
+            reported: AtomicU64::new(0),
             values: AtomicU64::new(0),
             pulls: AtomicU64::new(0),
             early: AtomicU64::new(0),
@@ -75,21 +75,21 @@ impl Watch {
         }
     }
 
-    /// A worth is asked for.
+    /// Counts a requested worth, and waits.
     pub fn value(&self) {
         let asked = self.values.fetch_add(1, Ordering::SeqCst);
-        self.is_behind(&self.told, asked);
+        self.is_behind(&self.reported, asked);
         self.wait(&self.values, self.holds.value);
     }
 
-    // Notes a call that comes before more than this was told.
-    fn is_behind(&self, told: &AtomicU64, asked: u64) {
-        if told.load(Ordering::SeqCst) <= asked {
+    // Counts a call as early if the gate was called at most `asked` times before it; `asked` is the number of earlier calls.
+    fn is_behind(&self, reported: &AtomicU64, asked: u64) {
+        if reported.load(Ordering::SeqCst) <= asked {
             self.early.fetch_add(1, Ordering::SeqCst);
         }
     }
 
-    // Looks until the count has come to this number.
+    // Waits until the count has reached `wanted`.
     fn wait(&self, count: &AtomicU64, wanted: u64) {
         for _turn in 0..TURNS {
             if wanted <= count.load(Ordering::SeqCst) {
@@ -99,7 +99,7 @@ impl Watch {
         self.late.fetch_add(1, Ordering::SeqCst);
     }
 
-    // Turns in place for a while that differs from call to call.
+    // Spins for a number of turns that differs from call to call.
     fn turn(&self, share: u64) {
         for _turn in 0..share.wrapping_mul(self.holds.turns) % 4096 {
             self.turned.fetch_add(1, Ordering::SeqCst);
@@ -107,7 +107,7 @@ impl Watch {
     }
 }
 
-// 16^digit, of sixteen digits.
+// Returns 16^digit for a digit below 16, else 0.
 fn digit(digit: u64) -> u64 {
     if digit < 16 {
         1u64 << (4 * digit as u32)
@@ -119,7 +119,7 @@ fn digit(digit: u64) -> u64 {
 impl Gate for Watch {
     fn row<R: Wait>(&self, _rt: &R, valuer: u8, file: u8, place: u32) {
         let (valuer, file, place) = (u64::from(valuer), u64::from(file), u64::from(place));
-        self.told.fetch_add(1, Ordering::SeqCst);
+        self.reported.fetch_add(1, Ordering::SeqCst);
         self.valuers.fetch_add(digit(valuer), Ordering::SeqCst);
         self.rows
             .fetch_add(digit(8 * file + place), Ordering::SeqCst);
@@ -142,7 +142,7 @@ impl Gate for Watch {
     }
 }
 
-/// An empty file, which tells the watch of its pulls.
+/// An empty file that reports its pulls to the watch.
 #[derive(Drop)]
 pub struct Looking {
     watch: Watched,
@@ -157,14 +157,9 @@ impl Looking {
 
 impl Feed for Looking {
     ghost use Rattle.std.specs.Prelude.{None, false};
+    ghost use Rattle.devices.specs.feeds.FeedState.{not_pulled};
 
-    ghost left = { λ _. None };
-
-    ghost given = { λ _. 0 };
-
-    ghost failures = { λ _. 0 };
-
-    ghost is_sure = { λ _. false };
+    ghost state = { λ _. not_pulled false None };
 
     fn pull(&mut self, _buffer: &mut [u8]) -> Result<usize, FeedFault> {
         self.watch.pulls.fetch_add(1, Ordering::SeqCst);

@@ -1,5 +1,6 @@
 -- What the threads of a run promise about their results, and what is prepared for them.
-use Rattle.std.specs.Prelude.{◌≡◌, ℕ, ◌+◌, ◌<◌, Bool, true, List, [], ◌∷◌, ◌++◌, length, drop, vec_len, ◌≤◌, Option, IsFalse, IsTrue}
+use Rattle.std.specs.Prelude.{◌≡◌, ℕ, ◌+◌, ◌<◌, Bool, true, List, [], ◌∷◌, ◌++◌, length, drop, vec_len, ◌≤◌, IsFalse, IsTrue}
+use Rattle.devices.specs.feeds.FeedState.{FeedState}
 use Rattle.lane.specs.Ends.{PutEndView, TakeEndView}
 use Rattle.std.specs.Global.{Vec}
 use Rattle.lane.specs.MessageKinds.{is_done}
@@ -12,10 +13,10 @@ use Rattle.rows.specs.ItemsView.{IsFullFor, PackedView}
 use Rattle.run_threads.specs.Reading.{IsRead, ReadAnswer}
 
 -- a reader that received this feed and this put end ended the put end, and read its file
-module _ {F : Type 0} (left : F → Option (List ℕ)) (is_sure : F → Bool) (failures : F → ℕ) where
+module _ {F : Type 0} (state : F → FeedState) where
   abbrev pub KeepsRead : Grid → F → PutEndView → PutEndView → ReadAnswer → Type 0
   KeepsRead grid feed given ended answer =
-      (ended.lane ≡ given.lane) × (ended.file ≡ given.file) × IsRead left is_sure failures grid given.file feed answer ended.sent
+      (ended.lane ≡ given.lane) × (ended.file ≡ given.file) × IsRead state grid given.file feed answer ended.sent
 
 -- a valuer that received this take end took until it was done, and valued what it took. If memory was refused, its list has no capacity left
 abbrev pub KeepsValued : List Formula → TakeEndView → TakeEndView → PackedView → Bool → Type 0

@@ -24,18 +24,18 @@ pub struct GaveUp {
     pub valuers: usize,
 }
 
-/// Joins each thread. `behind` is the part of the lane that must exist before.
+/// Joins each thread. `following` is the part of the lane that must exist before.
 pub fn join_each<'s, E, T: Threads, A: Drop, P: Promise<A> + RunPromise>(
     starter: &mut Starter<'s, E, T>,
     handles: Vec<PromisedHandle<A, P>>,
-    behind: &P::Behind,
+    following: &P::After,
 ) -> Joined
     requires running { starter.old.joined + vec_len handles ≤ starter.old.spent }
-    requires lane { All (λ h. P.lane h.promise ≡ P.Behind.lane_of behind.now) handles.items }
+    requires lane { All (λ h. P.lane h.promise ≡ P.After.lane_of following.now) handles.items }
     ensures counted { starter.new ≡ after_joins (vec_len handles) starter.old }
 {
     for handle in handles {
-        drop(starter.join(handle, behind));
+        drop(starter.join(handle, following));
     }
     Joined { _joined: () }
 }
@@ -50,7 +50,7 @@ pub fn quit_each<R: Wait>(rt: &R, closer: Closer, _readers: &Joined, valuers: us
 }
 
 /// Joins the valuers, after a Quit for each of them was sent into their lane.
-pub fn join_behind<'s, E, T: Threads>(
+pub fn join_after<'s, E, T: Threads>(
     starter: &mut Starter<'s, E, T>,
     quits: GivenUp,
     valuers: Vec<ValuerHandle>,

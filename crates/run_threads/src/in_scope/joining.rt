@@ -13,22 +13,22 @@ use rows::PackedItems;
 use std::thread::{Promise, PromisedHandle, Threads};
 use valuers::ValuerResult;
 
-/// Joins each thread and returns their results in order. `behind` is the part of the lane that must exist before.
+/// Joins each thread and returns their results in order. `following` is the part of the lane that must exist before.
 pub fn join_all<'s, E, T: Threads, A: Drop, P: Promise<A> + RunPromise>(
     starter: &mut Starter<'s, E, T>,
     handles: Vec<PromisedHandle<A, P>>,
     mut results: Vec<A>,
-    behind: &P::Behind,
+    following: &P::After,
 ) -> Vec<A>
     requires room { HasRoom (vec_len handles) results }
     requires running { starter.old.joined + vec_len handles ≤ starter.old.spent }
-    requires lane { All (λ h. P.lane h.promise ≡ P.Behind.lane_of behind.now) handles.items }
+    requires lane { All (λ h. P.lane h.promise ≡ P.After.lane_of following.now) handles.items }
     ensures kept { AllZip (λ h r. P.kept_by h.promise r) handles.items result.items }
     ensures count { vec_len result ≡ vec_len handles }
     ensures counted { starter.new ≡ after_joins (vec_len handles) starter.old }
 {
     for handle in handles {
-        results.push(starter.join(handle, behind)).unwrap();
+        results.push(starter.join(handle, following)).unwrap();
     }
     results
 }
@@ -68,11 +68,11 @@ pub fn split_values(
     for value in values {
         let ValuerResult {
             taker,
-            items: handed_on,
+            items: passed_on,
             memory,
         } = value;
         takers.push(taker).unwrap();
-        items.push(handed_on).unwrap();
+        items.push(passed_on).unwrap();
         refused = refused || memory;
     }
     (takers, items, refused)

@@ -6,7 +6,7 @@ ghost use Rattle.run_threads.specs.HandingOver.{IsHandedOver};
 ghost use Rattle.run_threads.specs.inner.Started.{after_joins};
 
 use crate::handing_over::HandedOver;
-use crate::in_scope::giving_up::{GaveUp, join_behind, join_each, quit_each};
+use crate::in_scope::giving_up::{GaveUp, join_after, join_each, quit_each};
 use crate::in_scope::joining::{join_all, split_reads, split_values};
 use crate::in_scope::running::Running;
 use crate::promises::{ReaderHandle, ValuerHandle};
@@ -28,7 +28,7 @@ pub fn settle<'s, E, T: Threads, R: Wait, F: Feed>(
 
     // These are the results for the feeds that the readers received, and each thread is joined.
     ensures handed { let given = map (λ h. h.promise.feed.value) running.readers.items in
-        IsHandedOver F.left F.is_sure F.failures running.plan.value given
+        IsHandedOver F.state running.plan.value given
         running.closer.takers running.closer.lane.2 result given }
     ensures counted { starter.new
         ≡ after_joins (vec_len running.readers + vec_len running.valuers) starter.old }
@@ -84,5 +84,5 @@ pub fn give_up<'s, E, T: Threads, R: Wait, F: Feed>(
 {
     let readers = join_each(starter, readers, &closer);
     let quits = quit_each(rt, closer, &readers, valuers.len());
-    join_behind(starter, quits, valuers)
+    join_after(starter, quits, valuers)
 }

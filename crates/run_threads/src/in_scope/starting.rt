@@ -159,7 +159,7 @@ fn start_reader<'s, E, T, R: Wait + Sync, F: Feed + Send + Drop + 's, G: Gate + 
         move |thread: OnThread, feed: F| -> FileRead
             requires { IsUnsent plan.now file end }
             ensures end { (result.ended.lane ≡ end.lane) × (result.ended.file ≡ file) }
-            ensures read { IsRead F.left F.is_sure F.failures plan.entry.now.grid file feed
+            ensures read { IsRead F.state plan.entry.now.grid file feed
                 result.answer result.ended.sent }
         { read_file(&thread, rt, alloc, feed, plan, file, end, gate) },
     )

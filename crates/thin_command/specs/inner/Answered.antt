@@ -1,4 +1,4 @@
--- What comes of writing to the sink, as the answer of a run.
+-- The result of writing to the sink, as the result of a run.
 use Rattle.std.specs.Prelude.{ℕ, Result, Ok, Err}
 use Rattle.minelib_lines.specs.declared.text_name.TextName.TheVariants.{Prec}
 use Rattle.devices.specs.declared.sinks.sink.SinkFault.{SinkFault}

@@ -61,8 +61,8 @@ fn lane_on_one_thread(rt: HostRuntime) -> Result<(), Fail> {
         block,
         worths: Worths::new(&[1_200_000]).expect(&rt, "worths"),
     });
-    let handed_on = [row, Item::End { file: 0, rows: 1 }];
-    assert_eq!(rt; result.items.as_slice(), handed_on.as_slice());
+    let passed_on = [row, Item::End { file: 0, rows: 1 }];
+    assert_eq!(rt; result.items.as_slice(), passed_on.as_slice());
     Ok(())
 }
 
@@ -150,7 +150,7 @@ fn put_six<R: Wait>(
 
 // Runs a reader that puts six rows through a lane of capacity 1, and a valuer whose list is in a heap of `bytes` bytes, packed or not. Returns
 // the number of gathered rows, the number of the valuer's items, and whether it was refused memory.
-fn handed_on<R: Threads + Wait + Sync>(
+fn passed_on<R: Threads + Wait + Sync>(
     rt: &R,
     alloc: Global,
     destinations: &[Destination],
@@ -227,8 +227,8 @@ fn growth_refused(rt: HostRuntime) -> Result<(), Fail> {
         (true, 65_536, 7),
     ];
     for (packed, bytes, count) in heaps {
-        let handed_on = handed_on(&rt, alloc, &plant, ore()?, bytes, packed)?;
-        assert_eq!(rt; handed_on, (6, count, count < 7));
+        let passed_on = passed_on(&rt, alloc, &plant, ore()?, bytes, packed)?;
+        assert_eq!(rt; passed_on, (6, count, count < 7));
     }
     Ok(())
 }

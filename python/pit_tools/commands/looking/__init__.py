@@ -1,1 +1,1 @@
-"""Commands that show what an instance, a pit or a schedule holds."""
+"""Commands that show what an instance, a pit or a schedule contains."""

@@ -7,17 +7,17 @@ from pit_tools.commands import add_outs, by_ending
 
 HELP = """\
 Finds nested pits: the ultimate pit of a plan at several multiples of its price, each within the
-next. It prints a line for each: blocks, ore, grade, metal, waste, strip ratio and value.
+next. It prints one line per pit: blocks, ore, grade, metal, waste, strip ratio and value.
 
     pit-tools nested mine.plan mine --factors 0.4,0.6,0.8,1 --out nested --out nested.png
 
-reads mine.blocks and mine.pcpsp; arcs follow from the plan. The price is that of the plan, net of
-selling and royalty. The factor says which blocks are in a pit; ore, waste and values of all pits
-are those at the plan's own price, so the pit of factor 1 is worth most. By --out nested each pit is
-written, as nested0.4.pit, for `report`, `survey`, `back` and `shell`.
+reads mine.blocks and mine.pcpsp; arcs follow from the plan. The price is the plan's, net of selling
+and royalty. The factor decides which blocks are in a pit; ore, waste and values of all pits use the
+plan's own price, so the pit of factor 1 is worth most. `--out nested` writes each pit, as
+nested0.4.pit, for `report`, `survey`, `back` and `shell`.
 """
 
-WRITES = "pits, CSV and workbooks of nested pits, and pictures of its kind"
+WRITES = "pits, CSV and workbooks of nested pits, and pictures"
 
 FACTORS = "0.3,0.4,0.5,0.6,0.7,0.8,0.9,1,1.1,1.2"
 
@@ -26,10 +26,10 @@ def add_arguments(parser: argparse.ArgumentParser) -> None:
     add = parser.add_argument
     add("plan", help="the plan")
     add("base", help="the instance: BASE.blocks, BASE.pcpsp")
-    add("--factors", metavar="LIST", default=FACTORS, help=f"of the price ({FACTORS})")
+    add("--factors", metavar="LIST", default=FACTORS, help=f"multiples of the price ({FACTORS})")
     add_outs(parser, "the table as .csv or .xlsx; a picture of tonnes and value by pit, and of the "
-             "outlines on a section, as .png, .svg or .pdf; or else the front of the names of the "
-             "pits' files")
+                     "outlines on a section, as .png, .svg or .pdf; otherwise the prefix of the "
+                     "pits' file names")
 
 
 def run(args: argparse.Namespace) -> int:

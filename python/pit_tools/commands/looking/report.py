@@ -1,4 +1,4 @@
-"""`pit-tools report`: what a pit or a schedule holds."""
+"""`pit-tools report`: what a pit or a schedule contains."""
 from __future__ import annotations
 
 import argparse
@@ -6,16 +6,16 @@ import argparse
 from pit_tools.commands import add_outs, by_ending
 
 HELP = """\
-Tells what a pit or a schedule holds: ore, grade, metal, waste, strip ratio and value by bench, by
-destination and, of a schedule, by period; and how many of its blocks are at a side of the model.
+Reports what a pit or a schedule contains: ore, grade, metal, waste, strip ratio and value by bench,
+by destination and, of a schedule, by period; and the number of its blocks at a side of the model.
 
     pit-tools report deposit.plan deposit deposit.pit
     pit-tools report deposit.plan deposit deposit.schedule --out report.csv --out report.xlsx
 
-reads deposit.blocks and deposit.pcpsp. Ore is what goes to a mill or a leach. A block of a pit goes
-where it is worth most; one of a schedule where its line says. Values are in the currency of the
-plan's note, or in units of 100 cents where there is none, undiscounted but in the last column of
-periods, where one of period t counts 1 / (1 + rate)^t.
+reads deposit.blocks and deposit.pcpsp. Ore goes to a mill or a leach. A block of a pit goes where
+it is worth most; a block of a schedule goes where its line states. Values are in the currency of
+the plan's sidecar file, or in units of 100 cents without one. They are undiscounted, except in the
+last column of periods, where a value of period t counts 1 / (1 + rate)^t.
 
 The CSV has all parts in one table, the part in the first column; the workbook has a sheet for each.
 """
@@ -26,7 +26,7 @@ WRITES = "CSV and workbooks of reports"
 def add_arguments(parser: argparse.ArgumentParser) -> None:
     parser.add_argument("plan", help="the plan")
     parser.add_argument("base", help="the instance: BASE.blocks, BASE.pcpsp")
-    parser.add_argument("mined", help="the blocks of a pit, one a line, or a schedule")
+    parser.add_argument("mined", help="the blocks of a pit, one per line, or a schedule")
     add_outs(parser, "writes the same as CSV or as a workbook, .csv or .xlsx")
 
 

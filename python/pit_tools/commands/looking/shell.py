@@ -14,13 +14,13 @@ Writes pits as closed surfaces of triangles, in the coordinates of the package's
     pit-tools shell mine.plan mine mine.pit --out pit.dxf
     pit-tools shell mine.plan mine early.pit=early mine.pit=last --out pits.vtk
 
-The surface runs along the faces of whole blocks: floor, walls and ground. By the ending of --out
-it is a DXF of 3DFACEs, each pit a layer; a VTK file, whose triangles have the number `pit`,
-from 0 on; or an OBJ, each pit an object. A pit has the name behind `=`, or else that of its file.
+The surface follows the faces of complete blocks: floor, walls and ground. The ending of --out
+selects a DXF of 3DFACEs, each pit a layer; a VTK file, whose triangles have the number `pit`, from
+0 on; or an OBJ, each pit an object. A pit has the name after `=`, or else its file's name.
 
-Coordinates are those of the export, turned models and feet too, by the note that `pit-tools plan`
-left beside the plan, or by --turned. For each pit it prints blocks, volume, triangles, and the
-least and the greatest coordinates.
+Coordinates are the export's, also for turned models and feet, by the sidecar file that `pit-tools
+plan` wrote next to the plan, or by --turned. For each pit it prints blocks, volume, triangles, and
+the smallest and largest coordinates.
 """
 
 WRITES = "DXF, VTK and OBJ files"
@@ -30,11 +30,12 @@ def add_arguments(parser: argparse.ArgumentParser) -> None:
     parser.add_argument("plan", help="the plan")
     parser.add_argument("base", help="the instance: BASE.blocks")
     parser.add_argument("pits", nargs="+", metavar="FILE[=NAME]",
-                        help="the blocks of a pit, one a line, and its name")
+                        help="the blocks of a pit, one per line, and its name")
     parser.add_argument("--out", required=True, metavar="FILE",
                         help="a file that ends with .dxf, .vtk or .obj")
     parser.add_argument("--turned", metavar="JSON",
-                        help="what `import` left, as from.json, where the plan has no note")
+                        help="the file that `import` wrote, as from.json, if the plan has no "
+                             "sidecar file")
 
 
 def run(args: argparse.Namespace) -> int:
@@ -66,7 +67,7 @@ def run(args: argparse.Namespace) -> int:
 
 
 def _print_shell(shell: Shell, count: int, unit: str) -> None:
-    from pit_tools.texts.spelling import shortest, with_commas
+    from pit_tools.texts.number_texts import shortest, with_commas
 
     ends = ", ".join(f"{axis} {shortest(low, 3)} to {shortest(high, 3)}"
                      for axis, low, high in zip("xyz", *shell.ends))
@@ -74,13 +75,13 @@ def _print_shell(shell: Shell, count: int, unit: str) -> None:
           f"{with_commas(len(shell.triangles))} triangles; {ends} {unit}")
     if shell.crossings:
         print(f"NOTE: at {with_commas(shell.crossings)} edges of {shell.name} four faces meet, "
-              "where its blocks touch along an edge alone: a package may want these repaired")
+              "because its blocks touch along an edge only: a package may require a repair")
 
 
 def _print_turn(turn: Optional[Turn]) -> None:
-    from pit_tools.plans.grids import turn_told
-    from pit_tools.texts.spelling import shortest
+    from pit_tools.plans.grids import turn_text
+    from pit_tools.texts.number_texts import shortest
 
     if turn is not None:
         about = ", ".join(shortest(one, 3) for one in turn.about)
-        print(f"turned back about {about}: the model's {turn_told(turn)}")
+        print(f"turned back about {about}: the model's {turn_text(turn)}")

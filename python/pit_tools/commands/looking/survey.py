@@ -1,4 +1,4 @@
-"""`pit-tools survey`: what was understood of a plan and its zone files."""
+"""`pit-tools survey`: how a plan and its zone files were understood."""
 from __future__ import annotations
 
 import argparse
@@ -12,33 +12,34 @@ if TYPE_CHECKING:
     from pit_tools.pits.files import NamedPit
 
 HELP = """\
-Tells what was understood of a plan and its zone files: first LOOK AT, what is odd, in words; then
-places, rock, tonnes and grade above cut-offs, benches, slopes asked and given, walls by height,
-sides of the model, destinations, what the pit holds by zone, its cash flow by bench and by nested
-pit, resources, and whether the files are those of the plan.
+Reports how a plan and its zone files were understood: first LOOK AT, what is unusual, in words;
+then positions, rock, tonnes and grade above cut-offs, benches, slopes requested and obtained, walls
+by height, sides of the model, destinations, the pit's contents by zone, its cash flow by bench and
+by nested pit, resources, and whether the files belong to the plan.
 
     pit-tools survey deposit.plan deposit oxide.csv west.csv east.csv --out survey.html
 
 reads deposit.blocks, deposit.prec and deposit.pcpsp; zone files, in the order of `pitc compile`,
-are named, and their lines counted. The page begins with a box to hand on: the pit, the date and
-versions, the plan in words, what import left out, and the sums of the files. It has pictures
-besides: maps of metal, of the ground and of the floor of the ultimate pit, sections and a bench,
-the grade-tonnage curve, slopes as a rose, tonnes by period, the pit by zone and its cash flow, and
-the pit with its ore, to turn. It opens without a network. By --out pictures/ they are files.
+are named, and their lines counted. The page begins with a summary to pass on: the pit, the date and
+versions, the plan in words, what `import` omitted, and the sums of the files. It also has pictures:
+maps of metal, of the ground and of the floor of the ultimate pit, sections and a bench, the
+grade-tonnage curve, slopes as a rose, tonnes by period, the pit by zone and its cash flow, and the
+pit with its ore, to turn. It opens without a network. `--out pictures/` writes them as files.
 
     pit-tools survey deposit.plan deposit --section y=2320 --pit k1.pit='K = 1' \\
         --pit k9.pit='K = 9' --out section.png
 
-draws one section, and prints nothing: a picture needs the block file alone. y=.. is a section along
+draws one section, and prints nothing: a picture needs only the block file. y=.. is a section along
 x, seen from the south; x=.. one along y; z=.. a bench, from above, each in metres: the plane of
-blocks nearest to them, or without --section that along x through most metal.
+blocks nearest to them, or without --section the section along x through most metal.
 
-Units and names of zones are those of the note deposit.plan.json, which `pit-tools plan` writes.
+Units and names of zones come from the sidecar file deposit.plan.json, which `pit-tools plan`
+writes.
 """
 
 WRITES = "surveys and pictures"
 
-#: How many steps the pictures of a survey are at the least.
+#: The smallest number of steps of a survey's pictures.
 PICTURES = 7
 
 
@@ -50,10 +51,10 @@ def add_arguments(parser: argparse.ArgumentParser) -> None:
     add_outs(parser, "a page, .html; all pictures, a folder with a slash at its end; or one "
              "section with the outlines of pits, .png, .svg or .pdf")
     parser.add_argument("--section", action="append", default=[], metavar="AXIS=METRES",
-                        help="a section, as y=2320, or a bench, as z=350; may be given again")
+                        help="a section, as y=2320, or a bench, as z=350; may be repeated")
     parser.add_argument("--pit", action="append", default=[], metavar="FILE[=NAME]",
-                        help="the blocks of a pit, one a line, in place of the ultimate pit; in a "
-                        "picture of a section there may be several, with names")
+                        help="the blocks of a pit, one per line, in place of the ultimate pit; a "
+                             "picture of a section may have several, with names")
     parser.add_argument("--by", choices=["grade", "zone"], default="grade",
                         help="what a picture of a section shows (grade)")
     parser.add_argument("--title", default="", help="the line above a picture of a section")
@@ -77,7 +78,7 @@ def run(args: argparse.Namespace) -> int:
         _draw(args, facts_of_blocks(args.plan, args.base), pits, pictures)
         return 0
     if len(pits) > 1:
-        raise UserError("--pit: a survey is of one pit; pictures of a section alone show several")
+        raise UserError("--pit: a survey is of one pit; only a picture of a section shows several")
     with progress.shown("survey", 5 + PICTURES * (len(outs[".html"]) + len(outs["/"]))):
         _survey(args, pits, outs, pictures)
     return 0

@@ -6,40 +6,40 @@ import argparse
 from pit_tools.commands import engine_options, from_zero
 
 HELP = """\
-Compiles the instances of a list by `pitc` in the current folder, and writes what is needed to name
-them, to size them, and to make them again.
+Compiles the instances of a list by `pitc` in the current folder, and writes what names, measures
+and reproduces them.
 
     pit-tools batch LIST
     pit-tools batch LIST --relax 60 --options '--valuers 1' --thin pitc_thin
     pit-tools batch LIST --continue --jobs 4
 
 A line of LIST is a plan NAME.plan and its zone files, in the plan's order; the instance goes to
-NAME. Then there are
+NAME. The outputs are
 
     BUILD       the version and the sum of pitc, its options, the sums of this tool's modules, and
                 the versions of Python and of the packages
     SIZES       a line for each instance: blocks, arcs, coefficients, limits and coefficients of the
                 CPIT, as `pitc check` counts them; blocks worth more than 0; bytes; periods,
                 destinations, resources, rate, tonnes; blocks, tonnes and value of the ultimate pit;
-                by --relax what the relaxations of CPIT and PCPSP are worth, which are bounds; and
-                by --thin the arcs of NAME.thin
+                with --relax the values of the relaxations of CPIT and PCPSP, which are bounds; and
+                with --thin the arcs of NAME.thin
     MANIFEST    the record of the SHA-256 sums of BUILD, SIZES, LIST, plans, zone files and
                 instances, as `sha256sum -c` reads them
-    RECORD      a line for each instance that is whole, from which --continue goes on
+    RECORD      a line for each complete instance, from which --continue continues
 
-It replaces these files and those of instances, and files of another kind by --force alone; what an
-instance had before stays until the new one is whole. A list that names an instance twice or a file
-that is not there is refused before anything is run. Where a plan is refused, an input changes
-meanwhile, or any step fails, it says which, goes on, leaves no MANIFEST, and ends with 1. With
---stop-at 5 it stops when five have failed and none is whole.
+It replaces these files and the files of instances, and files of another kind only with --force. An
+instance's former files stay until the new ones are complete. It rejects a list that names an
+instance twice or a missing file before it runs anything. If a plan is rejected, an input changes
+meanwhile, or any step fails, it reports which, continues, leaves no MANIFEST, and ends with 1. With
+--stop-at 5 it stops when five have failed and none is complete.
 
 On several machines each makes a part of the list, in the same folder or in a copy of it with LIST
-and the inputs; then one joins what they made, and writes the tables:
+and the inputs; then one joins the parts, and writes the tables:
 
     pit-tools batch LIST --part 2/5
     pit-tools batch LIST --join .
 
-or a Dask scheduler deals the instances out to its workers, which have to see the folder by the same
+or a Dask scheduler distributes the instances to its workers, which must see the folder by the same
 path:
 
     pit-tools batch LIST --scheduler tcp://node1:8786
@@ -51,17 +51,17 @@ def add_arguments(parser: argparse.ArgumentParser) -> None:
     parser.add_argument("--options", metavar="WORDS",
                         help="options of each `pitc compile`, in quotes")
     parser.add_argument("--pitc", metavar="PROGRAM",
-                        help="the program, where it is not in the PATH")
+                        help="the program, if it is not in the PATH")
     parser.add_argument("--thin", metavar="PROGRAM",
-                        help="pitc_thin, which writes NAME.thin too; the pit is found by it")
+                        help="pitc_thin, which also writes NAME.thin; the pit is found by it")
     parser.add_argument("--relax", type=from_zero, metavar="SECONDS",
-                        help="for each relaxation at most; without it there are none")
+                        help="limit for each relaxation; without it there are none")
     parser.add_argument("--continue", dest="goes_on", action="store_true",
-                        help="keeps instances that are whole, by their sums")
+                        help="keeps complete instances, by their sums")
     engine_options.add(parser, "no MANIFEST")
-    parser.add_argument("--force", action="store_true", help="replaces files of another kind too")
+    parser.add_argument("--force", action="store_true", help="also replaces files of another kind")
     parser.add_argument("--join", nargs="+", metavar="FOLDER",
-                        help="makes none, and takes the parts that lie in these folders")
+                        help="makes no instance, and joins the parts in these folders")
 
 
 def run(args: argparse.Namespace) -> int:
@@ -78,13 +78,13 @@ def _joined(args: argparse.Namespace) -> int:
     for name in ("options", "pitc", "thin", "relax", "goes_on", "jobs", "part", "scheduler",
                  "stop_at"):
         if getattr(args, name):
-            raise UserError("--join makes no instance, so it goes without "
+            raise UserError("--join makes no instance, so it excludes "
                             f"--{'continue' if name == 'goes_on' else name.replace('_', '-')}")
     joining = Joining(args.list, args.join)
     whole = joining.run()
-    lacking = "no MANIFEST" if joining.made else "nothing is changed"
-    return _told(joining.failed, f"{len(joining.made)} of {len(joining.list.entries)} instances",
-                 whole, lacking)
+    absent = "no MANIFEST" if joining.made else "nothing is changed"
+    return _report(joining.failed, f"{len(joining.made)} of {len(joining.list.entries)} instances",
+                    whole, absent)
 
 
 def _made(args: argparse.Namespace) -> int:
@@ -98,7 +98,7 @@ def _made(args: argparse.Namespace) -> int:
     from pit_tools.errors import UserError
 
     if args.relax == 0:
-        raise UserError("--relax: give seconds above 0, or leave it out for no relaxations")
+        raise UserError("--relax: give seconds above 0, or omit it for no relaxations")
     if len(args.options or "") > MOST_NAME:
         raise UserError(f"--options has more than {MOST_NAME:,} characters")
     try:
@@ -111,18 +111,19 @@ def _made(args: argparse.Namespace) -> int:
     batch = Batch(args.list, way, part)
     with progress.shown("batch", len(batch.entries)):
         whole = batch.run(engine_options.engine_of(args), args.goes_on, args.stop_at)
-    told = "" if part.is_whole else f"part {part.number} of {part.of}: "
+    message = "" if part.is_complete else f"part {part.number} of {part.of}: "
     kept = f", {len(batch.kept)} of them kept" if args.goes_on else ""
-    return _told(batch.failed, f"{told}{len(batch.made)} of {len(batch.entries)} instances{kept}",
-                 whole, "no MANIFEST" if part.is_whole else "")
+    return _report(batch.failed,
+                   f"{message}{len(batch.made)} of {len(batch.entries)} instances{kept}", whole,
+                   "no MANIFEST" if part.is_complete else "")
 
 
-def _told(failed: list[str], line: str, whole: bool, lacking: str) -> int:
-    """Tells what failed, the line, and where not all is whole what is missing; returns the
+def _report(failed: list[str], line: str, whole: bool, absent: str) -> int:
+    """Prints what failed, the line, and what is missing if not all is complete; returns the
     status."""
     import sys
 
     for one in failed:
         print(f"pit-tools batch: {one}", file=sys.stderr)
-    print(line if whole or not lacking else f"{line}; {lacking}")
+    print(line if whole or not absent else f"{line}; {absent}")
     return 0 if whole else 1

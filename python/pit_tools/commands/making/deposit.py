@@ -13,14 +13,14 @@ NAME-west.csv and NAME-east.csv, which go to `pitc compile` in this order.
     pit-tools deposit --seed 1-100 --size 12,9,6 --shape lens,vein --list LIST
 
 The last line makes two hundred, lens1, vein1, lens2 and so on, and writes the list that `batch`
-reads. A name, a seed, a size and a shape always make the same files to the byte.
+reads. The same name, seed, size and shape make the same files, byte for byte.
 
     pit-tools deposit --export deposit-oxide.csv deposit-west.csv deposit-east.csv --out export.csv
 
-makes no deposit, and writes an export of zone files as packages do: names of its own in quotes, a
-row of units, a row for each place of the box, coordinates and tonnes with the noise of floating
-point, -99 where nothing is known, zones by the names of their files, and lines ended by CR LF. Rock
-of less than 0.002 g/t has no grade. `import` is tried with it.
+makes no deposit, and writes an export of zone files as packages do: its own names in quotes, a row
+of units, a row for each position of the box, coordinates and tonnes with the noise of floating
+point, -99 for unknown values, zones by the names of their files, and lines ended by CR LF. Rock of
+less than 0.002 g/t has no grade. Try `import` on it.
 
 shapes: lens, flat, and dips to the east; pipe, upright and round; vein, steep and thin, along y.
 """
@@ -31,18 +31,21 @@ WHAT_A_SIZE_IS = "a size is three numbers of blocks, as 24,18,12"
 
 
 def add_arguments(parser: argparse.ArgumentParser) -> None:
-    parser.add_argument("--name", default=None, help="the name, `deposit` where none is given; "
-                        "before the seed where there are several")
-    parser.add_argument("--seed", default=None, help="1 to 1000000, or a span as 1-100: it moves "
-                        "the ore and draws its width and grade")
+    parser.add_argument("--name", default=None,
+                        help="the name, `deposit` by default; it precedes the seed if there are "
+                             "several")
+    parser.add_argument("--seed", default=None,
+                        help="1 to 1000000, or a range as 1-100: it shifts the ore and sets its "
+                             "width and grade")
     parser.add_argument("--size", default="24,18,12",
                         help="numbers of blocks of 20 x 20 x 10 m along x, y and z (24,18,12)")
     parser.add_argument("--shape", default="lens",
                         help="lens, pipe or vein, or several with commas (lens)")
     parser.add_argument("--export", nargs="+", metavar="ZONE",
                         help="writes an export of these zone files, and makes no deposit")
-    parser.add_argument("--out", metavar="PATH", help="the folder where the files go, or the file "
-                        "of the export, which is printed else")
+    parser.add_argument("--out", metavar="PATH",
+                        help="the folder of the files, or the file of the export, which is "
+                             "otherwise printed")
     parser.add_argument("--list", metavar="FILE",
                         help="writes a line for each deposit, its plan and its zone files")
 
@@ -53,7 +56,7 @@ def _numbers(text: str, what: str) -> list[int]:
     from pit_tools.errors import UserError
 
     if not re.fullmatch("[0-9]{1,9}(,[0-9]{1,9})*", text):
-        raise UserError(f"{what}: `{text[:60]}` is no list of whole numbers")
+        raise UserError(f"{what}: `{text[:60]}` is not a list of integers")
     return list(map(int, text.split(",")))
 
 
@@ -61,7 +64,7 @@ def _seeds(text: str) -> list[int]:
     from pit_tools.deposits.seeded import MOST_SEED
     from pit_tools.errors import UserError
 
-    what = f"a seed is a whole number from 1 to {MOST_SEED}, or a span as 1-100"
+    what = f"a seed is an integer from 1 to {MOST_SEED}, or a range as 1-100"
     first, _, last = text.partition("-")
     begin, end = _numbers(f"{first},{last or first}", what)
     if not 1 <= begin <= end <= MOST_SEED:

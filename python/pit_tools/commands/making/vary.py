@@ -4,8 +4,8 @@ from __future__ import annotations
 import argparse
 
 HELP = """\
-Writes plans that differ from one in some cells, in all combinations, each under a name that says
-which.
+Writes plans that differ from one in some cells, in all combinations, each under a name that states
+its values.
 
     pit-tools vary deposit.plan --set K=2,4 --set price=5000000,5800000 \\
         --zones oxide.csv west.csv east.csv --list LIST
@@ -28,14 +28,14 @@ WRITES = "plans and lists"
 def add_arguments(parser: argparse.ArgumentParser) -> None:
     parser.add_argument("plan", help="the plan")
     parser.add_argument("--set", action="append", default=[], metavar="CELL=VALUE,..",
-                        help="a cell and its values; may be given again")
+                        help="a cell and its values; may be repeated")
     parser.add_argument("--name",
-                        help="the beginning of the names, that of the plan where none is given")
+                        help="the prefix of the names, the plan's name by default")
     parser.add_argument("--zones", nargs="*", default=[], metavar="FILE",
-                        help="the zone files of all of them, for --list")
+                        help="the zone files of all plans, for --list")
     parser.add_argument("--list", metavar="FILE",
                         help="writes a line for each plan: the plan and its zone files")
-    parser.add_argument("--out", default=".", metavar="FOLDER", help="where the plans go")
+    parser.add_argument("--out", default=".", metavar="FOLDER", help="the folder of the plans")
 
 
 def run(args: argparse.Namespace) -> int:
@@ -50,7 +50,7 @@ def run(args: argparse.Namespace) -> int:
     text = read_text(args.plan)
     plan = plan_of(text, args.plan)
     if not text.isascii():
-        raise UserError(f"{args.plan}: it has letters that are not ASCII, and a plan has none")
+        raise UserError(f"{args.plan}: it has letters that are not ASCII; a plan must be ASCII")
     if not args.set:
         raise UserError("give a cell by --set, as --set K=2,4")
     changes, lines = [Change.of(one) for one in args.set], []

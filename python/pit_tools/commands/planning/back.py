@@ -4,21 +4,20 @@ from __future__ import annotations
 import argparse
 
 HELP = """\
-Takes a pit or a schedule back to the package: as coordinates, or onto the rows of its own export.
+Writes a pit or a schedule for the package: as coordinates, or on the rows of its own export.
 
     pit-tools back deposit.plan deposit deposit.pit --out pit.csv
     pit-tools back deposit.plan deposit deposit.pit --onto from.json --out export-pit.csv
 
 The first writes x, y, z, block, tonnes, grade, zone and mined of each block of the pit; with --all
 the others too, with mined 0. The second reads the export again as `pit-tools import` did, which
-left from.json, and writes its rows with `block` and `mined` behind the package's own columns:
-sub-blocks have what their parent has, and a turned model its own coordinates. Rows of Parquet are
-written as Parquet.
+wrote from.json, and writes its rows with `block` and `mined` after the package's own columns:
+sub-blocks get their parent's values, and a turned model keeps its own coordinates. Rows of Parquet
+are written as Parquet.
 
-A line of a schedule is a block and its period, then its destination, and the share of the block, as
-far as they are given: they are columns then. On the export's rows stand the period and destination
-of the greatest share, and `mined` is the sum of shares; with --shares each period has a column:
-share_0 ..
+A line of a schedule is a block and its period, then its destination, and the share of the block, if
+they are given: these become columns. The export's rows have the period and destination of the
+largest share, and `mined` is the sum of shares; with --shares each period has a column: share_0 ..
 """
 
 WRITES = "rows of a pit"
@@ -27,15 +26,16 @@ WRITES = "rows of a pit"
 def add_arguments(parser: argparse.ArgumentParser) -> None:
     parser.add_argument("plan", help="the plan")
     parser.add_argument("base", help="the instance: BASE.blocks")
-    parser.add_argument("mined", help="the blocks of a pit, one a line, or a schedule")
-    parser.add_argument("--out", metavar="FILE", help="where it goes; else it is printed")
-    parser.add_argument("--all", action="store_true", help="the blocks that are not mined too")
+    parser.add_argument("mined", help="the blocks of a pit, one per line, or a schedule")
+    parser.add_argument("--out", metavar="FILE", help="the output file; otherwise it is printed")
+    parser.add_argument("--all", action="store_true", help="also the blocks that are not mined")
     parser.add_argument("--onto", metavar="JSON",
-                        help="what `import` left beside the zone files, as from.json")
+                        help="the file that `import` wrote with the zone files, as from.json")
     parser.add_argument("--shares", action="store_true",
-                        help="on the export's rows, the share of each period too")
+                        help="on the export's rows, also the share of each period")
     parser.add_argument("--turned", metavar="JSON",
-                        help="the same, for the export's coordinates where the plan has no note")
+                        help="the same file, for the export's coordinates if the plan has no "
+                             "sidecar file")
 
 
 def run(args: argparse.Namespace) -> int:
@@ -54,14 +54,14 @@ def run(args: argparse.Namespace) -> int:
     plan, blocks = read_plan(args.plan), read_blocks(args.base + ".blocks")
     mined = read_mined(args.mined, plan, len(blocks))
     if args.shares and not args.onto:
-        raise UserError("--shares goes with --onto: other rows have the share of one period each")
+        raise UserError("--shares requires --onto: other rows have the share of one period each")
     if args.onto:
-        # Rows that are printed tell by themselves how far it is.
+        # Printed rows show the progress themselves.
         with progress.shown("back", 3) if args.out else nullcontext():
             rows, found, without = onto_rows(args.onto, plan, blocks, mined, args.out, args.shares)
-        told = f"{rows:,} rows, of which {found:,} are blocks of the instance"
-        told += f"; {without:,} blocks that are mined have no row" if without else ""
-        print(told, file=sys.stdout if args.out else sys.stderr)
+        message = f"{rows:,} rows, of which {found:,} are blocks of the instance"
+        message += f"; {without:,} mined blocks have no row" if without else ""
+        print(message, file=sys.stdout if args.out else sys.stderr)
         return 0
     note = read_note(args.plan)
     if note.why_not:

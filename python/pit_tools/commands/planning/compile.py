@@ -4,38 +4,38 @@ from __future__ import annotations
 import argparse
 
 HELP = """\
-Runs `pitc compile` with the same words, and shows on a terminal how many bytes it has read and
+Runs `pitc compile` with the same arguments, and shows on a terminal how many bytes it has read and
 written.
 
     pit-tools compile --plan mine.plan --out mine from-west.csv from-east.csv from-oxide.csv
 
-What pitc prints and the status with which it ends are its own; behind a line in which it refuses an
-input stand the file, the line and the cell, and what to do. Files at BASE are replaced by pitc;
-as where it is called alone, no file is begun before all rows are read. Then it waits until the
-system has stored these files, which pitc does not, and reports an error of that. Last it writes
-BASE.sums, the sums of these files, of the plan and of the zone files, by which other commands know
-that they belong together. Where pitc is in no folder of the PATH, --pitc names it.
+pitc's output and status are passed on unchanged; after a line in which it rejects an input, this
+adds the file, the line and the cell, and what to do. pitc replaces files at BASE, and begins no
+file before it has read all rows. Then this command waits until the system has stored these files,
+which pitc does not, and reports an error of that. Last it writes BASE.sums, the sums of these
+files, of the plan and of the zone files, by which other commands know that they belong together. If
+pitc is in no folder of the PATH, --pitc names it.
 
     pitc < examples/pit.txt | pit-tools compile --sections - --out pit
 
-runs nothing, and writes the sections that `pitc` prints without words, as pit.blocks, pit.prec,
-pit.upit, pit.pcpsp and pit.cpit. What was cut short is refused: its sections have other numbers of
-blocks, or other limits.
+runs nothing, and writes the sections that `pitc` prints without arguments, as pit.blocks, pit.prec,
+pit.upit, pit.pcpsp and pit.cpit. It rejects output that was cut short: its sections differ in the
+number of blocks, or in limits.
 """
 
-WRITES = "texts of an instance"
+WRITES = "instance files"
 
 
 def add_arguments(parser: argparse.ArgumentParser) -> None:
     parser.add_argument("--plan", metavar="PLAN", help="the plan")
     parser.add_argument("--out", metavar="BASE",
-                        help="the front of the names of the instance's files")
-    parser.add_argument("--valuers", metavar="N", help="threads that value rows")
-    parser.add_argument("--capacity", metavar="N", help="rows that may wait for them")
+                        help="the prefix of the instance's file names")
+    parser.add_argument("--valuers", metavar="N", help="number of threads that value rows")
+    parser.add_argument("--capacity", metavar="N", help="number of rows that may wait for them")
     parser.add_argument("--pitc", metavar="PROGRAM",
-                        help="the program, where it is not in the PATH")
+                        help="the program, if it is not in the PATH")
     parser.add_argument("--sections", metavar="FILE",
-                        help="what `pitc` printed without words, or - for standard input")
+                        help="the output of `pitc` without arguments, or - for standard input")
     parser.add_argument("zones", nargs="*", metavar="ZONE", help="zone files, in the plan's order")
 
 
@@ -46,7 +46,7 @@ def _write_sections(args: argparse.Namespace) -> int:
     from pit_tools.instances.sections import write_sections
 
     if not args.out or args.plan or args.zones:
-        raise UserError("--sections: give BASE by --out, and no plan and no zone files")
+        raise UserError("--sections: give BASE by --out, and omit the plan and the zone files")
     if args.sections == "-":
         write_sections(sys.stdin.buffer, args.out, "standard input")
     else:
@@ -64,7 +64,7 @@ def run(args: argparse.Namespace) -> int:
     from pit_tools.files.locks import held
     from pit_tools.instances.compiling import compile_shown
     from pit_tools.instances.files import TEXTS
-    from pit_tools.instances.refusals import reasons
+    from pit_tools.instances.pitc_errors import reasons
 
     if args.sections:
         return _write_sections(args)

@@ -12,24 +12,24 @@ if TYPE_CHECKING:
     from pit_tools.plans.note import PlanNote
 
 HELP = """\
-Finds the ultimate pit of an instance: the blocks of greatest value in all, each with all that it
-waits for. A program of C++ does it, in a second or two for a million blocks at K = 1; where no C++
-compiler is there, HiGHS solves it up to some ten thousand blocks.
+Finds the ultimate pit of an instance: the blocks of largest total value, each with all its
+predecessors. A C++ program finds it, in a second or two for a million blocks at K = 1; without a
+C++ compiler, HiGHS solves it up to about ten thousand blocks.
 
     pit-tools pit deposit --out deposit.pit
 
 reads deposit.blocks, deposit.prec and deposit.upit, writes the identifiers of the pit's blocks, one
-a line, and prints how many they are, their tonnes and their worth: in the currency that the note of
-deposit.plan has, or else in units of 100 cents.
+per line, and prints their number, tonnes and value: in the currency of deposit.plan's sidecar file,
+or else in units of 100 cents.
 
     pit-tools pit deposit --prec deposit.thin
 
-reads the arcs of deposit.thin, which pitc_thin wrote: the same pit, by fewer arcs.
+reads the arcs of deposit.thin, which pitc_thin wrote: the same pit, from fewer arcs.
 
     pit-tools pit deposit --plan deposit.plan --K 1,2,4,9,plan --out k
 
-finds the pit for one K after the other, that of all zones, or the plan's own where `plan` stands.
-It reads no precedences, since they follow from the plan, and writes k1.pit, k2.pit and so on.
+finds the pit for each K in turn, used for all zones; `plan` keeps the plan's own K. It reads no
+precedences, since they follow from the plan, and writes k1.pit, k2.pit and so on.
 """
 
 WRITES = "pits"
@@ -39,11 +39,11 @@ def add_arguments(parser: argparse.ArgumentParser) -> None:
     parser.add_argument("base", help="the instance: BASE.blocks, BASE.prec, BASE.upit")
     add_precedence_option(parser)
     parser.add_argument("--out", metavar="FILE",
-                        help="where the pit's blocks go; with --K the beginning of the names")
+                        help="the file for the pit's blocks; with --K the prefix of the names")
     parser.add_argument("--plan", metavar="PLAN",
-                        help="finds the arcs by this plan, and not by BASE.prec")
+                        help="finds the arcs from this plan, and not from BASE.prec")
     parser.add_argument("--K", metavar="LIST", default="plan",
-                        help="benches that cones go up, as 1,2,4,plan; needs --plan")
+                        help="numbers of benches that cones reach up, as 1,2,4,plan; needs --plan")
 
 
 def run(args: argparse.Namespace) -> int:
@@ -52,10 +52,10 @@ def run(args: argparse.Namespace) -> int:
     from pit_tools.instances.arrays import present
     from pit_tools.instances.files import read_instance
     from pit_tools.pits.closure import ultimate_pit
-    from pit_tools.pits.files import told, write_pit
+    from pit_tools.pits.files import pit_text, write_pit
 
     if args.plan and args.prec:
-        raise UserError("--plan finds the arcs, so it goes without --prec")
+        raise UserError("--plan finds the arcs, so it excludes --prec")
     if args.plan:
         return _by_plan(args)
     if args.K != "plan":
@@ -68,13 +68,13 @@ def run(args: argparse.Namespace) -> int:
         in_pit = ultimate_pit(upit.values, mine.precedence)
     if args.out:
         write_pit(in_pit, args.out)
-    print(told(in_pit, blocks, upit.values, _note(args.base + ".plan", upit.name)))
+    print(pit_text(in_pit, blocks, upit.values, _note(args.base + ".plan", upit.name)))
     return 0
 
 
 def _note(plan_path: str, name: str) -> PlanNote:
-    """The note of the plan of an instance of this name; where one is there and does not fit,
-    that is reported."""
+    """Returns the sidecar file of the plan of an instance of this name; reports one that does not
+    fit."""
     import sys
 
     from pit_tools.files.records import status_of
@@ -96,18 +96,18 @@ def _by_plan(args: argparse.Namespace) -> int:
     from pit_tools.instances.arrays import present
     from pit_tools.instances.files import read_instance
     from pit_tools.plans.file import read_plan
-    from pit_tools.texts.decimals import whole_of
+    from pit_tools.texts.decimals import integer_of
 
     plan = read_plan(args.plan)
     mine = read_instance(args.base, ("blocks", "upit"))
     most = int(present(mine.blocks, "block file").zone.max())
     if most >= len(plan.zones):
-        raise UserError(f"{args.base}.blocks has a zone {most}, and the plan {len(plan.zones)} "
+        raise UserError(f"{args.base}.blocks has a zone {most}, but the plan has {len(plan.zones)} "
                         "zones")
     note = _note(args.plan, plan.name)
     benches = args.K.split(",")
     for K in benches:
-        if K != "plan" and not 1 <= (whole_of(K) or 0) <= 20:
+        if K != "plan" and not 1 <= (integer_of(K) or 0) <= 20:
             raise UserError(f"--K: `{K}` is neither 1 to 20 nor `plan`")
     with outputs.together(record=f"{args.out}.pits" if args.out else ""), \
             progress.shown("pit", len(benches)):
@@ -123,7 +123,7 @@ def _pits_by_K(args: argparse.Namespace, plan: Plan, mine: Instance, benches: li
     from pit_tools import progress
     from pit_tools.instances.arrays import present
     from pit_tools.pits.closure import pit_by_cones
-    from pit_tools.pits.files import told, write_pit
+    from pit_tools.pits.files import pit_text, write_pit
 
     blocks, values = present(mine.blocks,
                              "block file"), present(mine.upit, f"{args.base}.upit").values
@@ -135,4 +135,4 @@ def _pits_by_K(args: argparse.Namespace, plan: Plan, mine: Instance, benches: li
         if args.out:
             write_pit(in_pit, f"{args.out}{K}.pit")
         with progress.hidden():
-            print(f"K = {K}: {told(in_pit, blocks, values, note)}", flush=True)
+            print(f"K = {K}: {pit_text(in_pit, blocks, values, note)}", flush=True)

@@ -1,4 +1,4 @@
-"""`pit-tools bounds`: what no pit and no schedule is worth more than."""
+"""`pit-tools bounds`: upper bounds of the worth of pits and schedules."""
 from __future__ import annotations
 
 import argparse
@@ -12,29 +12,29 @@ if TYPE_CHECKING:
 
 HELP = """\
 Prints bounds of an instance: the sum of all values above 0; the value of the ultimate pit,
-undiscounted, which no schedule is worth more than; and the relaxations of its CPIT and PCPSP, which
-let blocks be split over periods.
+undiscounted, a bound of every schedule; and the relaxations of its CPIT and PCPSP, which let blocks
+be split over periods.
 
     pit-tools bounds deposit --seconds 300
 
 HiGHS solves relaxations up to 5,000 blocks by periods; `-` means that it did not end in time, or
 that limits cannot be met. For larger ones a search sets prices of the limits and finds closures by
-the program of C++, up to millions of blocks. If the time is up, its bound is larger than the
-relaxation's value, and still true. The proof takes about one more step of the search.
+the C++ program, up to millions of blocks. If the time is up, its bound is larger than the
+relaxation's value, and still valid. The proof takes about one more step of the search.
 
     pit-tools bounds deposit --out deposit.bound
     pit-tools bounds deposit --check deposit.bound
 
 The first command searches for prices whatever the size, and writes a certificate of both bounds:
-the prices, pits, and the flows that prove the bound. The second checks it by the files of the
-instance alone, in integers, and prints the bounds that it proves, rounded up to hundredths. The
+the prices, pits, and the flows that prove the bound. The second checks it from the files of the
+instance only, in integers, and prints the bounds that it proves, rounded up to hundredths. The
 status is 1 if the certificate belongs to other files or does not prove exactly its bound.
 """
 
 WRITES = "certificates"
 
 
-#: A bound as a number, exact if it is a certificate's; None if none was found.
+#: A bound as a number, exact if a certificate states it; None if none was found.
 Bound = Union[float, Fraction, None]
 
 
@@ -70,9 +70,9 @@ def run(args: argparse.Namespace) -> int:
     if found is None:
         return 1
     if args.json:
-        from pit_tools.schedules.certificates import told
+        from pit_tools.schedules.certificates import bound_text
 
-        print_json({name: float(told(value)) if isinstance(value, Fraction) else value
+        print_json({name: float(bound_text(value)) if isinstance(value, Fraction) else value
                     for name, value in found.items()})
         return 0
     for name, value in found.items():
@@ -81,13 +81,13 @@ def run(args: argparse.Namespace) -> int:
 
 
 def _text(name: str, value: Bound) -> str:
-    from pit_tools.schedules.certificates import told
-    from pit_tools.texts.spelling import at_least_cents
+    from pit_tools.schedules.certificates import bound_text
+    from pit_tools.texts.number_texts import at_least_cents
 
     if value is None:
         return "-"
     if isinstance(value, Fraction):
-        return told(value)
+        return bound_text(value)
     return f"{value:.2f}" if "relaxed" in name else at_least_cents(value)
 
 
@@ -116,8 +116,8 @@ def _sums(args: argparse.Namespace, kinds: list[str]) -> dict[str, str]:
 
 
 def _checked(args: argparse.Namespace) -> Optional[dict[str, Bound]]:
-    """The bounds that a file of certificates proves; None if one is not proved, which is
-    printed."""
+    """Returns the bounds that a file of certificates proves; None, which is printed, for one that
+    is not proved."""
     from pit_tools import progress
     from pit_tools.instances.arrays import present
     from pit_tools.instances.files import read_instance

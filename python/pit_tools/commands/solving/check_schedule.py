@@ -1,4 +1,4 @@
-"""`pit-tools check-schedule`: whether a schedule holds, and what it is worth."""
+"""`pit-tools check-schedule`: whether a schedule is feasible, and what it is worth."""
 from __future__ import annotations
 
 import argparse
@@ -6,18 +6,18 @@ import argparse
 from pit_tools.commands import PRECEDENCE, add_json, print_json
 
 HELP = """\
-Tells what a schedule of a CPIT or a PCPSP is worth and uses, and what it breaks: a block that is
-mined sooner than one it waits for, more than once, or split over periods; a limit that is not kept.
+Reports what a schedule of a CPIT or a PCPSP is worth and uses, and what it violates: a block that
+is mined before a predecessor, more than once, or split over periods; a limit that is not met.
 
     pit-tools check-schedule small.pcpsp small.prec small.schedule
     pit-tools check-schedule small.pcpsp small.prec --solution cbc.sol --out small.schedule
 
 A line of a schedule is a block and its period, and for a PCPSP its destination, and then the share
-of the block where that is not 1. --solution reads what cbc or `glpsol --output` answered to a
-program of `pit-tools lp`. In a CPIT and a PCPSP a block is mined in one period; --relaxed lets it
-be split, as relaxations do: these are bounds and no schedules. A value of period t counts 1 / (1 +
-rate)^t. The status is 1 where something is broken. What is off by a millionth is not counted; but a
-share below 0 is broken, however small it is.
+of the block if that is not 1. --solution reads the result of cbc or `glpsol --output` for a program
+of `pit-tools lp`. In a CPIT and a PCPSP a block is mined in one period; --relaxed lets it be split,
+as relaxations do: these are bounds, not schedules. A value of period t counts 1 / (1 + rate)^t. The
+status is 1 if something is violated. A difference of a millionth is not counted; but a share below
+0 is a violation, however small it is.
 """
 
 WRITES = "schedules"
@@ -28,11 +28,11 @@ def add_arguments(parser: argparse.ArgumentParser) -> None:
     parser.add_argument("precedence", help=PRECEDENCE)
     parser.add_argument("schedule", nargs="?", help="the schedule")
     parser.add_argument("--solution", metavar="FILE",
-                        help="a solver's answer in place of a schedule")
+                        help="a solver's result in place of a schedule")
     parser.add_argument("--out", metavar="FILE", help="writes the schedule of --solution")
     parser.add_argument("--relaxed", action="store_true", help="lets blocks be split over periods")
     parser.add_argument("--most", type=int, default=20, metavar="N",
-                        help="how many broken things are told at most (20)")
+                        help="the largest number of violations to print (20)")
     add_json(parser)
 
 
@@ -47,7 +47,7 @@ def run(args: argparse.Namespace) -> int:
     problem = read_problem(args.problem)
     precedence = read_precedence(args.precedence, len(problem.values))
     if (args.schedule is None) == (args.solution is None):
-        raise UserError("give a schedule, or a solver's answer by --solution")
+        raise UserError("give a schedule, or a solver's result by --solution")
     if args.solution:
         schedule = schedule_of_variables(read_variables(args.solution), problem)
     else:

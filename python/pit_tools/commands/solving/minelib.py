@@ -6,8 +6,7 @@ import argparse
 HELP = """\
 Brings MineLib files of other programs into the form that `pitc check` and this tool read, and
 writes an instance as the library publishes its files. **The library's files are known here by
-hearsay alone: none was tried.** Look at what is told, and at docs/formats.md, before you trust a
-file.
+hearsay only: none was tried.** Read the report, and docs/formats.md, before you trust a file.
 
     pit-tools minelib --blocks marvin.blocks --prec marvin.prec --cpit marvin.cpit \\
         --tonnes 5 --grade 6 --out mine
@@ -15,44 +14,46 @@ file.
     pit-tools minelib --publish deposit --out published --order brd --fewer-arcs
 
 Inward, comments, `EOF`, exponents, other cases, orders and spellings, identifiers from 1, lines
-only for blocks that have predecessors, and a second number behind `L` or `G` are taken; of UPIT,
-CPIT and PCPSP what is lacking is made of the others; --tonnes, --grade and --zone are fields of a
-block line, counted from 1, and its other fields are skipped, words too. What is changed, rounded or
-left out is told, with its first line. What is not known, does not fit, or is none that `pitc check`
-takes is refused with its line. General side constraints are refused, or left out by
---without-general. Where a coefficient's fields fit several orders, --order has to say which.
+only for blocks that have predecessors, and a second number after `L` or `G` are accepted; a missing
+UPIT, CPIT or PCPSP is made from the others; --tonnes, --grade and --zone are fields of a block
+line, counted from 1, and its other fields are skipped, also words. Each change, rounding or
+omission is reported, with its first line. An unknown line, a line that does not fit and a line that
+`pitc check` rejects are errors. General side constraints are an error, or omitted by
+--without-general. If a coefficient's fields fit several orders, --order must give one.
 
-Where a predecessor stands before its block, blocks are put into an order in which it comes later.
-OUT.ids has a line for each block: its identifier in OUT and the one in the published files.
---to-published and --from-published bring the lines of a pit or a schedule from one to the other.
-Outward each model ends with `EOF`; with --ids blocks stand in the published order.
+If a predecessor precedes its block, blocks are put into an order in which it follows. OUT.ids has a
+line for each block: its identifier in OUT and the one in the published files. --to-published and
+--from-published translate the lines of a pit or a schedule between the two. Outward each model ends
+with `EOF`; with --ids blocks are in the published order.
 """
 
 ENDINGS = ("blocks", "prec", "upit", "cpit", "pcpsp")
 
-WRITES = "texts of an instance, identifiers and lines of blocks"
+WRITES = "instance files, identifiers and lines of blocks"
 
 
 def add_arguments(parser: argparse.ArgumentParser) -> None:
-    """The words of the command."""
+    """Adds the arguments of the command."""
     for ending in ENDINGS:
         parser.add_argument(f"--{ending}", metavar="FILE", help=f"the published {ending} file")
     parser.add_argument("--publish", metavar="BASE",
-                        help="an instance that is written as published files")
+                        help="an instance to write as published files")
     parser.add_argument("--to-published", metavar="FILE",
-                        help="a pit or a schedule, to be written with published identifiers")
-    parser.add_argument("--from-published", metavar="FILE", help="the same from these")
+                        help="a pit or a schedule to write with published identifiers")
+    parser.add_argument("--from-published", metavar="FILE",
+                        help="the same from published identifiers")
     parser.add_argument("--ids", metavar="FILE", help="BASE.ids of an instance of published files")
     parser.add_argument("--out", required=True, metavar="BASE",
-                        help="where the files go, or the lines")
+                        help="the base of the files, or the file for the lines")
     for name in ("tonnes", "grade", "zone"):
         parser.add_argument(f"--{name}", type=int, default=0, metavar="N",
                             help=f"the field of a block line that has the {name}, counted from 1")
     parser.add_argument("--order", choices=["bdr", "brd", "rbd"],
                         help="the order of fields in a coefficient, as b for the block, d for the "
-                        "destination and r for the resource (bdr outward, inward what alone fits)")
+                             "destination and r for the resource (bdr outward; inward the only one "
+                             "that fits)")
     parser.add_argument("--without-general", action="store_true",
-                        help="leaves general side constraints out")
+                        help="omits general side constraints")
     parser.add_argument("--fewer-arcs", action="store_true",
                         help="without the arcs that pitc_thin drops")
 
@@ -113,7 +114,7 @@ def _publish(args: argparse.Namespace) -> int:
     if args.ids:
         identifiers = read_identifiers(args.ids)
         if mine.blocks is None or len(identifiers.published) != len(mine.blocks):
-            raise UserError(f"{args.ids}: it has {len(identifiers.published)} blocks, and "
+            raise UserError(f"{args.ids}: it has {len(identifiers.published)} blocks, but "
                             f"{args.publish} has others")
         mine = reordered(mine, identifiers.blocks())
         if identifiers.first:

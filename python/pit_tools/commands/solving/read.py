@@ -14,15 +14,15 @@ Reads the files of an instance into arrays and sparse matrices, and prints the c
 `pitc check` prints.
 
     pit-tools read deposit
-    pit-tools read deposit --out copy                the same files again, to the byte
+    pit-tools read deposit --out copy                the same files, byte for byte
     pit-tools read deposit --out deposit.npz         for numpy.load
-    pit-tools read deposit --prec deposit.thin          with the arcs that pitc_thin left
+    pit-tools read deposit --prec deposit.thin    with the arcs that pitc_thin kept
     pit-tools read deposit --fewer-arcs --out fewer  without what pitc_thin drops
 
 A program of your own calls pit_tools.read_instance.
 """
 
-WRITES = "texts of an instance and arrays"
+WRITES = "instance files and arrays"
 
 
 def add_arguments(parser: argparse.ArgumentParser) -> None:
@@ -30,7 +30,7 @@ def add_arguments(parser: argparse.ArgumentParser) -> None:
                         "BASE.cpit")
     add_precedence_option(parser)
     add_outs(parser, "writes blocks, values, uses and the precedences' indptr and indices into a "
-             ".npz file, or else the files at another base")
+                     ".npz file, or the files at another base")
     parser.add_argument("--fewer-arcs", action="store_true",
                         help="drops the arcs that pitc_thin drops: no pit and no schedule changes")
 
@@ -45,7 +45,7 @@ def run(args: argparse.Namespace) -> int:
 
     outs = by_ending(args.out, ".npz", has_others=True)
     if len(outs[""]) > 1:
-        raise UserError(f"--out: one base, and not {', '.join(outs[''])}")
+        raise UserError(f"--out: give one base, not {', '.join(outs[''])}")
     mine = read_instance(args.base, precedence=args.prec)
     print(mine.counts())
     if args.fewer_arcs:
@@ -83,7 +83,7 @@ def _write_arrays(mine: Instance, path: str) -> None:
                   f"{name}_periods": problem.periods,
                   f"{name}_limits": np.array(limits, dtype=float).reshape(-1, 4)}
         parts |= {f"{name}_use_{part}": array for part, array in vars(problem.uses).items()}
-    # numpy's savez leaves its archive open where a disk is full, which then tells of itself.
+    # If a disk is full, numpy's savez leaves its archive open, which then prints an error itself.
     with outputs.opened(path, "arrays") as file, zipfile.ZipFile(file, "w") as archive:
         for name, array in parts.items():
             with archive.open(f"{name}.npy", "w", force_zip64=True) as part:

@@ -6,5 +6,5 @@ returns-clause-ends g c =
       done = λ zero. (_, rw c.new.ensures at (ends.done zero));
       quiet = ends.quiet;
       kept = ends.kept;
-      refused = λ some. let told = ends.refused some in (told.0, (_, rw c.new.ensures at told.1), told.2);
+      refused = λ some. let reported = ends.refused some in (reported.0, (_, rw c.new.ensures at reported.1), reported.2);
     }

@@ -6,13 +6,13 @@ use Rattle.collector.specs.inner.Places.{IsOfFile, IsPlaced}
 use Rattle.collector.proofs.Few.{list-within}
 use Rattle.collector.proofs.Placing.{all-lists, all-of-list, items-long}
 use Rattle.rows.specs.ItemsView.{items_in}
-use Rattle.rows.specs.Packed.{mark_of}
+use Rattle.rows.specs.Packed.{key_of}
 use Rattle.rows.specs.declared.item.Item.{Item}
 use Rattle.collector.proofs.ordering.store_lists.Goals as goal
 
 pub store_list-requires-clause-files : goal.store_list-requires-clause-files
 store_list-requires-clause-files c =
-    let OfFile : ℕ → Item → Type 0 = λ files item. IsOfFile files (mark_of item) in
+    let OfFile : ℕ → Item → Type 0 = λ files item. IsOfFile files (key_of item) in
     subst (λ (files : ℕ). All (OfFile files) (slice_index_or (items_in c.args.lists.now) c.loop-list.list [])) (sym c.loop-list.invariant.count)
     (all-of-list (OfFile (length c.args.places.now)) (items_in c.args.lists.now) c.loop-list.list c.requires.files
     (omega (arith, c.loop-list-test.true, items-long c.args.lists.now)))

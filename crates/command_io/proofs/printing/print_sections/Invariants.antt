@@ -10,5 +10,5 @@ invariant-loop-name g l = record {
   printed : l.sink.before ++ l.sink.taken
       ≡ (l.fn.sink.before ++ l.fn.sink.taken)
       ++ flat_map (λ name. section (ending_of name) (text_named name l.instance)) (take l.name-index all_texts);
-  front : take (length l.fn.sink.before) l.sink.before ≡ l.fn.sink.before;
+  prefix : take (length l.fn.sink.before) l.sink.before ≡ l.fn.sink.before;
 }

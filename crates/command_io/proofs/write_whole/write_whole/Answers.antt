@@ -4,8 +4,8 @@ use Rattle.command_io.proofs.write_whole.write_whole.Goals as goal
 
 pub loop-taken-preserved : goal.loop-taken-preserved
 loop-taken-preserved g c = record {
-  front = took_more _ _ _ c.args.bytes.now c.loop-taken.taken c.in_ok-taken.field-0
-      c.loop-taken.invariant.front c.in_ok-taken.ensures.puts.takes;
+  prefix = took_more _ _ _ c.args.bytes.now c.loop-taken.taken c.in_ok-taken.field-0
+      c.loop-taken.invariant.prefix c.in_ok-taken.ensures.puts.takes;
   works = c.in_ok-taken.ensures.puts.works ∙ c.loop-taken.invariant.works;
   within = search rules;
 }

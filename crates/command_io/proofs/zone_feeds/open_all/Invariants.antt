@@ -1,4 +1,5 @@
 use Rattle.std.proofs.Common.{◌≡◌, ◌++◌, map, string_bytes, length}
+use Rattle.devices.specs.feeds.FeedState.{all_remaining}
 use Rattle.devices.specs.files.Opening.{all_opened}
 use Rattle.command_io.proofs.zone_feeds.open_all.Given as goal
 
@@ -6,6 +7,6 @@ use Rattle.command_io.proofs.zone_feeds.open_all.Given as goal
 abbrev pub invariant-loop-file : goal.invariant-loop-file
 invariant-loop-file g l = record {
   opened : g.O.Opener.opened l.files ≡ g.O.Opener.opened l.initial.files
-      ++ all_opened (map string_bytes l.paths) (map g.O.Opened.Feed.left l.feeds.items);
+      ++ all_opened (map string_bytes l.paths) (all_remaining g.O.Opened.Feed.state l.feeds.items);
   count : length l.feeds.items ≡ l.file;
 }

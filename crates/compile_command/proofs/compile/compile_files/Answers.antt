@@ -4,14 +4,14 @@ pub returns-clause-ends : goal.returns-clause-ends
 returns-clause-ends g c =
     let ends = c.compile_at-ended.ensures.ends in record {
       done = λ zero.
-          let told = ends.done zero in
-          record { opened = _; made = _; starts = _; sinks = _; told = rw (c.new.ensures, c.new-2.ensures, c.new-3.ensures) at told };
+          let reported = ends.done zero in
+          record { opened = _; made = _; starts = _; sinks = _; reported = rw (c.new.ensures, c.new-2.ensures, c.new-3.ensures) at reported };
       quiet = ends.quiet;
       kept = ends.kept;
       refused = λ bad.
-          let told = ends.refused bad in (
-            told.0,
-            record { opened = _; made = _; starts = _; sinks = _; why = rw (c.new.ensures, c.new-2.ensures, c.new-3.ensures) at told.1 },
-            told.2,
+          let reported = ends.refused bad in (
+            reported.0,
+            record { opened = _; made = _; starts = _; sinks = _; why = rw (c.new.ensures, c.new-2.ensures, c.new-3.ensures) at reported.1 },
+            reported.2,
           );
     }

@@ -1,11 +1,11 @@
 use Rattle.std.proofs.Common.{◌≡◌, ◌∙◌, true, ap, sym, subst, length}
 use Rattle.plan_parts.specs.Name.{is_name}
 use Rattle.mine_instance.specs.OfModel.{instance_of}
-use Rattle.mine_instance.specs.Kept.{IsKept}
+use Rattle.mine_instance.specs.WellFormed.{IsWellFormed}
 use Rattle.mine_instance.specs.Valid.{IsValid}
 use Rattle.mine_instance.specs.Instance.{Instance}
 use Rattle.mine_instance.proofs.BuildFacts.{by_identifier_is}
-use Rattle.mine_instance.proofs.KeptLaws.{instance_of_kept}
+use Rattle.mine_instance.proofs.WellFormedLaws.{instance_of_well_formed}
 use Rattle.mine_instance.proofs.ModelFacts.{built_is, instance_is_valid}
 use Rattle.mine_instance.proofs.building.of_parts.Goals as goal
 
@@ -21,5 +21,5 @@ returns g c =
     record {
       value = λ listed n numbered same. built ∙ ap (instance_of plan) (sym (by_identifier_is listed n numbered ∙ same));
       valid = subst P (sym built) (instance_is_valid plan blocks c.rate.ensures.kept c.requires.few);
-      kept = subst IsKept (sym built) (instance_of_kept plan blocks named c.rate.ensures.kept);
+      kept = subst IsWellFormed (sym built) (instance_of_well_formed plan blocks named c.rate.ensures.kept);
     }

@@ -1,5 +1,5 @@
 use Rattle.std.proofs.Common.{◌≡◌, ◌++◌, ◌∙◌, [], length, map, get_or, ap, sym, arith}
-use Rattle.mine_instance.specs.Greatest.{first_greatest}
+use Rattle.mine_instance.specs.Largest.{first_largest}
 use Rattle.mine_instance.specs.coefs.Groups.{coefs_in, pairs_of}
 use Rattle.mine_instance.specs.cpit.OfCpit.{at_only_destination}
 use Rattle.mine_instance.proofs.GroupFacts.{chosen_more, group_there, same_choice}
@@ -10,8 +10,8 @@ of_block-requires g c =
     group_there c.group-group.result (g.C.CoefList.list c.args.coefs.now) c.loop-from.from (length (g.V.ValueList.list c.args.values.now))
     c.group-group.ensures.some c.group-group.ensures.value (omega (arith, c.loop-from-test.true, c.len.ensures)) c.requires.there
 
-pub first_greatest-destination-requires : goal.first_greatest-destination-requires
-first_greatest-destination-requires g c =
+pub first_largest-destination-requires : goal.first_largest-destination-requires
+first_largest-destination-requires g c =
     let within = group_there c.group-group.result (g.C.CoefList.list c.args.coefs.now) c.loop-from.from (length (g.V.ValueList.list c.args.values.now))
     c.group-group.ensures.some c.group-group.ensures.value (omega (arith, c.loop-from-test.true, c.len.ensures)) c.requires.there in
     rw c.of_block.ensures (c.requires.some c.group-group.result.b [] within)
@@ -23,9 +23,9 @@ loop-from-preserved g c =
     let group = c.group-group.result in
     let values = g.V.ValueList.list c.args.values.now in
     let count : c.len-from.result ≡ length (pairs_of group.pairs) = c.len-from.ensures in
-    let at_destination : c.first_greatest-destination.result ≡ first_greatest (get_or values group.b []) =
-    c.first_greatest-destination.ensures.value ∙ ap first_greatest c.of_block.ensures in
-    let same = same_choice values group.b group.v c.first_greatest-destination.result (pairs_of group.pairs) at_destination in
+    let at_destination : c.first_largest-destination.result ≡ first_largest (get_or values group.b []) =
+    c.first_largest-destination.ensures.value ∙ ap first_largest c.of_block.ensures in
+    let same = same_choice values group.b group.v c.first_largest-destination.result (pairs_of group.pairs) at_destination in
     record {
       within = rw count c.group-group.ensures.within;
       chosen =

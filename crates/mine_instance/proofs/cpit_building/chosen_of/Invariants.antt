@@ -3,7 +3,7 @@ use Rattle.std.specs.Prelude.{filter}
 use Rattle.mine_instance.specs.cpit.OfCpit.{is_chosen, at_only_destination}
 use Rattle.mine_instance.proofs.cpit_building.chosen_of.Given as goal
 
--- Those so far that are at their blocks' destinations are chosen.
+-- The coefficients so far that are at their blocks' destinations are chosen.
 abbrev pub invariant-loop-from : goal.invariant-loop-from
 invariant-loop-from g l = record {
   within : l.from ≤ length (g.C.CoefList.list l.coefs);

@@ -1,8 +1,8 @@
-use Rattle.minelib_reading.proofs.counts.FedAnswers.{arcs_told}
+use Rattle.minelib_reading.proofs.counts.FedAnswers.{arcs_reported}
 use Rattle.minelib_reading.proofs.fed_counts.count_arcs.Goals as goal
 
 pub returns-in-Ok-finish-clause-counts : goal.returns-in-Ok-finish-clause-counts
 returns-in-Ok-finish-clause-counts g c =
     let read = rw (c.new-draft.ensures, c.in-Ok.is) at c.in_ok-end.ensures.read in
-    rw c.arcs.ensures (arcs_told c.args.blocks (g.F.Feed.left c.args.feed.now) c.args.limit _ c.in-Ok.end c.read_fed.new.state c.in-Ok-finish.preds read
+    rw c.arcs.ensures (arcs_reported c.args.blocks c.args.limit (g.F.Feed.state c.args.feed.now) _ c.in-Ok.end c.read_fed.new.state c.in-Ok-finish.preds read
     c.in-Ok-finish.ensures)

@@ -1,7 +1,7 @@
 use Rattle.std.proofs.Common.{rules}
 use Rattle.minelib_lines.specs.declared.problem.Problem.TheVariants.{Pcpsp}
 use Rattle.minelib_reading.specs.Denotes.{denoted}
-use Rattle.minelib_reading.proofs.models.KeptRead.{read_kept}
+use Rattle.minelib_reading.proofs.models.WellFormedRead.{read_well_formed}
 use Rattle.minelib_reading.proofs.models.ValidRead.{model_is_valid, read_valid}
 use Rattle.minelib_reading.proofs.instance_reader.denoted_instance.Goals as goal
 
@@ -16,4 +16,4 @@ returns-in-Ok-read_model-clause-valid c =
 pub returns-in-Ok-read_model-clause-kept : goal.returns-in-Ok-read_model-clause-kept
 unfolding denoted
 returns-in-Ok-read_model-clause-kept c =
-    read_kept c.args.blocks.now c.args.prec.now c.args.pcpsp.now c.into_instance.result (search rules)
+    read_well_formed c.args.blocks.now c.args.prec.now c.args.pcpsp.now c.into_instance.result (search rules)

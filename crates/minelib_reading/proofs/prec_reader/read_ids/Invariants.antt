@@ -4,7 +4,7 @@ use Rattle.text_lines.specs.StatedFields.{below_in}
 use Rattle.text_lines.specs.TextLines.{fields_of}
 use Rattle.minelib_reading.proofs.prec_reader.read_ids.Given as goal
 
--- the rest of the line adds to the identifiers that were read
+-- the remainder of the line adds to the identifiers that were read
 abbrev pub invariant-loop-rest : goal.invariant-loop-rest
 invariant-loop-rest l =
     (all_by (below_in l.blocks) l.ids.items (fields_of l.rest) ≡ all_by (below_in l.blocks) [] (fields_of l.line))

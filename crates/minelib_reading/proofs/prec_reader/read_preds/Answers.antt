@@ -1,7 +1,7 @@
 use Rattle.std.proofs.Common.{◌≡◌, Err, rules, subst}
 use Rattle.pit_units.specs.OrMemory.{Gives}
 use Rattle.minelib_reading.specs.PrecText.{finish_preds}
-use Rattle.minelib_reading.proofs.spelled.SpelledRead.{preds_finished, preds_stopped}
+use Rattle.minelib_reading.proofs.encoded.EncodedRead.{preds_finished, preds_stopped}
 use Rattle.minelib_reading.proofs.prec_reader.read_preds.Goals as goal
 
 pub returns : goal.returns

@@ -2,12 +2,12 @@ use Rattle.std.proofs.Common.{◌≡◌, ap}
 use Rattle.std.proofs.lemmas.List.{length-map}
 use Rattle.std.proofs.lemmas.List.Elements.{All-filter, All-map}
 use Rattle.std.proofs.lemmas.Result.{on_ok_weaker}
-use Rattle.mine_instance.specs.Greatest.{greatest}
+use Rattle.mine_instance.specs.Largest.{largest}
 use Rattle.mine_instance.specs.Instance.{Instance}
 use Rattle.mine_instance.specs.cpit.OfCpit.{is_chosen, at_only_destination}
 use Rattle.pit_units.specs.DecimalRange.{IsInDecimalRange}
-use Rattle.mine_instance.specs.Kept.{HasDecimals}
-use Rattle.minelib_writing.specs.Written.{greatest_line, limit_line}
+use Rattle.mine_instance.specs.WellFormed.{HasDecimals}
+use Rattle.minelib_writing.specs.Written.{largest_line, limit_line}
 use Rattle.minelib_writing.proofs.ChosenFacts.{chosen_text}
 use Rattle.minelib_writing.proofs.KeptFacts.{kept_all}
 use Rattle.minelib_writing.proofs.LineFacts.{length-line_parts}
@@ -26,8 +26,8 @@ returns g c =
       kept = on_ok_weaker c.write_text.result
           (λ kept. record {
             name = c.of_one_destination.ensures.kept;
-            values = All-map IsInDecimalRange greatest i.values
-                (kept_all (λ of_block. IsInDecimalRange (greatest of_block)) i.values _ (length-line_parts greatest_line i.values) kept.0);
+            values = All-map IsInDecimalRange largest i.values
+                (kept_all (λ of_block. IsInDecimalRange (largest of_block)) i.values _ (length-line_parts largest_line i.values) kept.0);
             coefs = All-map (λ e. IsInDecimalRange e.v) at_only_destination _
                 (All-filter (is_chosen i.values) (λ c. IsInDecimalRange c.v) i.coefs
                 (kept_all (λ c. IsInDecimalRange c.v) i.coefs _ (length-map i.coefs _) kept.1));

@@ -1,6 +1,6 @@
 use Rattle.std.proofs.lemmas.Result.{on_ok_weaker}
 use Rattle.pit_units.specs.DecimalRange.{IsInDecimalRange}
-use Rattle.mine_instance.specs.Kept.{HasDecimals}
+use Rattle.mine_instance.specs.WellFormed.{HasDecimals}
 use Rattle.minelib_writing.specs.Written.{one_value_line, cpit_coef_line, limit_line}
 use Rattle.minelib_writing.proofs.KeptFacts.{kept_all}
 use Rattle.minelib_writing.proofs.LineFacts.{length-line_parts}

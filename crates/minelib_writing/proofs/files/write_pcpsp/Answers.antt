@@ -5,7 +5,7 @@ use Rattle.minelib_writing.specs.inner.CoefParts.{coef_part}
 use Rattle.minelib_writing.specs.declared.lines.coefs.CoefForm.TheVariants.{OfAll}
 use Rattle.pit_units.specs.DecimalRange.{IsInDecimalRange}
 use Rattle.mine_instance.specs.Instance.{Instance}
-use Rattle.mine_instance.specs.Kept.{HasDecimals}
+use Rattle.mine_instance.specs.WellFormed.{HasDecimals}
 use Rattle.minelib_writing.specs.Written.{value_line, limit_line}
 use Rattle.minelib_writing.proofs.KeptFacts.{kept_all}
 use Rattle.minelib_writing.proofs.LineFacts.{length-line_parts}

@@ -3,14 +3,14 @@ use Rattle.minelib_writing.proofs.KeptFacts.{holds_then}
 use Rattle.minelib_writing.proofs.PartsWritten.{parts_then, rest_cut}
 use Rattle.minelib_writing.proofs.parts.write_parts.Goals as goal
 
--- the parts so far were written on, the rest was cut short, and so are they all
+-- the parts so far were written, the remainder was cut off, and so are all parts
 pub returns-in_err-count-clause-writes : goal.returns-in_err-count-clause-writes
 returns-in_err-count-clause-writes g c =
     let parts = g.L.Parted.parts c.args.parted.now in
     let cut = rw g.met.L.Parted.whole at (rest_cut parts _ c.loop-index.invariant.written.appended c.in_err-count.ensures.refused) in
     search rules
 
--- those before the place, and then some more
+-- the parts before the index, and then some more
 pub loop-index-preserved : goal.loop-index-preserved
 loop-index-preserved g c =
     let parts = g.L.Parted.parts c.args.parted.now in

@@ -4,7 +4,7 @@ use Rattle.devices.specs.sinks.Writes.{IsWrittenOn}
 use Rattle.minelib_writing.specs.inner.KeptParts.{HoldsFrom}
 use Rattle.minelib_writing.proofs.parts.write_parts.Given as goal
 
--- The parts so far are written on.
+-- The parts so far are written.
 abbrev pub invariant-loop-index : goal.invariant-loop-index
 invariant-loop-index g l = record {
   within : l.index ≤ length (g.L.Parted.parts l.parted);

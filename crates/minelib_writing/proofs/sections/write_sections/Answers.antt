@@ -1,7 +1,7 @@
 use Rattle.std.proofs.Common.{rules, ◌++◌, ◌∷◌}
 use Rattle.std.specs.Prelude.{codes}
 use Rattle.std.proofs.lemmas.Result.{on_ok_weaker}
-use Rattle.minelib_writing.proofs.SectionsWritten.{goes_on, lines_then, lines_cut_then, lines_cut_before}
+use Rattle.minelib_writing.proofs.SectionsWritten.{continues, lines_then, lines_cut_then, lines_cut_before}
 use Rattle.minelib_writing.proofs.sections.write_sections.Goals as goal
 
 pub returns-in_err-write_titled-clause-writes : goal.returns-in_err-write_titled-clause-writes
@@ -28,7 +28,7 @@ returns g c =
     let limits = codes "RESOURCE_CONSTRAINT_LIMITS:" ∷ g.L.Parted.lines c.args.limits.now in
     let two = lines_then values coefs c.in_ok-write_titled.ensures.writes c.in_ok-write_titled-2.ensures.writes in
     record {
-      writes = goes_on _ _ (values ++ coefs) limits c.write_titled-3.result two c.write_titled-3.ensures.writes;
+      writes = continues _ _ (values ++ coefs) limits c.write_titled-3.result two c.write_titled-3.ensures.writes;
       values = on_ok_weaker c.write_titled-3.result (λ _. c.in_ok-write_titled.ensures.kept) c.write_titled-3.ensures.kept;
       coefs = on_ok_weaker c.write_titled-3.result (λ _. c.in_ok-write_titled-2.ensures.kept) c.write_titled-3.ensures.kept;
       limits = c.write_titled-3.ensures.kept;

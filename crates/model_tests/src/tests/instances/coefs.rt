@@ -1,8 +1,8 @@
-//! Coefficients that are found are those of a list, group by group, and as many.
+//! Lazily computed coefficients equal a list of coefficients, group by group, and in number.
 
 ghost use Rattle.std.specs.Prelude.{◌<◌, length};
 
-use mine_instance::FoundCoefs;
+use mine_instance::LazyCoefs;
 use mine_instance::coefs::coef::{Coef, Coefs};
 use mine_instance::coefs::list::CoefList;
 use pit_units::Dec;
@@ -11,7 +11,7 @@ use plan_parts::ranges::MAX_BLOCKS;
 use std::alloc::Global;
 use std::test::Fail;
 
-// The kilograms of blocks by identifier, and pairs of a destination and a resource.
+// The kilograms of blocks in order of identifier, and pairs of a destination and a resource.
 const CASES: [(&[u64], &[(u8, u8)]); 6] = [
     (&[], &[(0, 0)]),
     (&[0, 0], &[(0, 0), (1, 0)]),
@@ -21,7 +21,7 @@ const CASES: [(&[u64], &[(u8, u8)]); 6] = [
     (&[0, 1_000_000_000], &[(7, 7), (0, 0)]),
 ];
 
-fn found(alloc: Global, kilograms: &[u64], pairs: &[(u8, u8)]) -> Result<FoundCoefs, Fail> {
+fn found(alloc: Global, kilograms: &[u64], pairs: &[(u8, u8)]) -> Result<LazyCoefs, Fail> {
     let mut blocks = Vec::new(alloc);
     for kg in kilograms {
         blocks.push(Block::new(0, 0, 0, *kg, 0, 0).ok_or("a block")?)?;
@@ -30,7 +30,7 @@ fn found(alloc: Global, kilograms: &[u64], pairs: &[(u8, u8)]) -> Result<FoundCo
         return Err("a few")?;
     }
     let pairs = Vec::from_slice(alloc, pairs)?;
-    Ok(FoundCoefs::new(alloc, pairs, blocks.as_slice())?)
+    Ok(LazyCoefs::new(alloc, pairs, blocks.as_slice())?)
 }
 
 fn listed(alloc: Global, kilograms: &[u64], pairs: &[(u8, u8)]) -> Result<Coefs, Fail> {
@@ -54,8 +54,8 @@ fn list(coefs: &mut Vec<Coef>, b: u32, kg: u64, pairs: &[(u8, u8)]) -> Result<()
     Ok(())
 }
 
-// Whether the group from a place on has the coefficients of a list from there on.
-fn agree_from(one: &FoundCoefs, other: &Coefs, from: usize) -> bool
+// Returns whether the group from a place on has the coefficients of a list from there on.
+fn agree_from(one: &LazyCoefs, other: &Coefs, from: usize) -> bool
     requires { from < length one.now }
 {
     let group = one.group(from);
@@ -71,7 +71,7 @@ fn agree_from(one: &FoundCoefs, other: &Coefs, from: usize) -> bool
     place > from
 }
 
-fn agree(one: &FoundCoefs, other: &Coefs) -> bool {
+fn agree(one: &LazyCoefs, other: &Coefs) -> bool {
     for from in 0..one.len() {
         if !agree_from(one, other, from) {
             return false;

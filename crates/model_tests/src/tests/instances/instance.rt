@@ -1,4 +1,4 @@
-//! An instance that is built of rows in one call: the program takes its steps one by one.
+//! An instance built from rows in one call: the program makes the steps one by one.
 
 ghost use Rattle.std.specs.Prelude.{◌≡◌, ◌≤◌, All, length, IfOk, IfSome, IsTrue};
 ghost use Rattle.plan_parts.specs.PlanFormulas.{formulas_of_plan};
@@ -21,7 +21,7 @@ use rows::{Valued, Worths};
 use std::alloc::Global;
 use std::test::Fail;
 
-// The worths of a block at the two destinations of a plan.
+// Returns the worths of a block at the two destinations of a plan.
 fn worths_of(plan: &Plan, block: Block) -> Option<Worths>
     ensures { IfSome result (λ worths. worths ≡ worths_by (formulas_of_plan plan.now) block) }
 {
@@ -80,17 +80,17 @@ fn has_values(instance: &Instance, id: usize, millionths: &[i128]) -> bool {
     id < instance.values.len() && are_millionths(instance.values.of(id), millionths)
 }
 
-// A coefficient of so many tonnes.
+// Returns a coefficient with this number of tonnes.
 fn coef(b: u32, d: u8, r: u8, tonnes: u32) -> Option<Coef> {
     let v = Dec::new(i128::from(tonnes) * 1_000_000)?;
     Some(Coef { b, d, r, v })
 }
 
-// A plan of a mill and a dump: a resource that covers both, and one that covers the dump.
+// A plan with a mill and a dump: one resource covers both, the other covers the dump.
 const BOTH: &[u8] =
     b"name,one\ngrid,0,0,0,10,10,10\nzone,1,1,1\nmill,mill,900,600,1500\ndump,dump,200\nperiods,2\nrate,0.1\nresource,plant,mill,dump\nresource,trucks,dump\nlimit,plant,1,I,0,900\nlimit,plant,0,L,500.5\n";
 
-// Two blocks of ore, one above the other, the upper one first.
+// Returns two blocks of ore, one above the other, the upper one first.
 fn two_ores(plan: &Plan) -> Option<[Valued; 2]>
     ensures { IfSome result
         (λ rows. All (λ row. row.worths ≡ worths_by (formulas_of_plan plan.now) row.block) rows) }
@@ -106,7 +106,7 @@ fn ores() -> Option<[Block; 2]> {
     ])
 }
 
-// The coefficients of the two at both destinations, by block, destination and resource.
+// Returns the coefficients of the two blocks at both destinations, in order of block, destination and resource.
 fn all_coefs() -> Option<[Coef; 6]> {
     Some([
         coef(0, 0, 0, 1000)?,
@@ -118,7 +118,7 @@ fn all_coefs() -> Option<[Coef; 6]> {
     ])
 }
 
-// Those of the CPIT, where both go to the mill.
+// Returns the coefficients of the CPIT, in which both blocks go to the mill.
 fn mill_coefs() -> Option<[Coef; 2]> {
     Some([coef(0, 0, 0, 1000)?, coef(1, 0, 0, 2000)?])
 }
@@ -142,8 +142,8 @@ fn has_preds(instance: &Instance, id: usize, list: &[u32]) -> bool {
     id < instance.preds.len() && id < 2 && instance.preds.of(id as u32) == list
 }
 
-// Whether an instance of the two lends their lists.
-fn lends_lists(instance: &Instance) -> Option<bool> {
+// Returns whether an instance of the two blocks has their lists.
+fn borrows_lists(instance: &Instance) -> Option<bool> {
     let (blocks, coefs, limits) = (ores()?, all_coefs()?, limits()?);
     Some(
         instance.blocks.as_slice() == blocks.as_slice()
@@ -157,7 +157,7 @@ fn lends_lists(instance: &Instance) -> Option<bool> {
     )
 }
 
-fn lends_cpit_lists(cpit: &Cpit) -> Option<bool> {
+fn borrows_cpit_lists(cpit: &Cpit) -> Option<bool> {
     let (coefs, limits) = (mill_coefs()?, limits()?);
     Some(
         are_millionths(cpit.values(), &[12_000_000_000, 24_000_000_000])
@@ -174,12 +174,12 @@ fn built_of_two_ores(alloc: Global) -> Result<Instance, Fail>
     built_of(alloc, &plan, &rows)
 }
 
-// What is built lends each of its lists.
+// A built instance and CPIT return references to their lists.
 #[test]
-fn built_lists_are_lent(rt: HostRuntime) -> Result<(), Fail> {
+fn built_lists_are_borrowed(rt: HostRuntime) -> Result<(), Fail> {
     let instance = built_of_two_ores(rt.alloc())?;
-    assert!(rt; lends_lists(&instance) == Some(true));
+    assert!(rt; borrows_lists(&instance) == Some(true));
     let cpit = build_cpit(rt.alloc(), &instance)?;
-    assert!(rt; lends_cpit_lists(&cpit) == Some(true));
+    assert!(rt; borrows_cpit_lists(&cpit) == Some(true));
     Ok(())
 }

@@ -1,4 +1,4 @@
-//! Instances made by hand, of which only those that keep all ranges, lengths and orders are valid.
+//! Instances made manually: exactly those with all ranges, lengths and orders are valid.
 
 ghost use Rattle.std.specs.Prelude.{◌≡◌, vec_len, IfOk};
 
@@ -16,7 +16,7 @@ use precedence::Preds;
 use std::alloc::Global;
 use std::test::Fail;
 
-// Two blocks, the first of which has to wait for the second; two destinations, two periods and one resource.
+// Returns two blocks, the second a predecessor of the first, with two destinations, two periods and one resource.
 fn valid(alloc: Global) -> Result<Instance, Fail> {
     instance_of(alloc, LIMITED)
 }
@@ -61,7 +61,7 @@ fn numbers_of_instances(rt: HostRuntime) -> Result<(), Fail> {
     Ok(())
 }
 
-// How many blocks there are, how many of them have values, how many each; and whether the instance is valid with them.
+// The numbers of blocks, of blocks with values, and of values for each; and whether the instance is valid with them.
 const COUNTS: [(usize, usize, usize, bool); 7] = [
     (2, 2, 2, true),
     (1, 2, 2, false),
@@ -111,7 +111,8 @@ fn lengths_of_instances(rt: HostRuntime) -> Result<(), Fail> {
     Ok(())
 }
 
-// Lists of predecessors of two blocks, none of which names a block that is not there, the block itself, or one twice.
+// Lists of predecessors for two blocks; in valid ones, no list has an identifier of no block, the block itself, or an identifier
+// twice.
 const LISTS: [(&[&[u32]], bool); 10] = [
     (&[&[1], &[]], true),
     (&[&[], &[]], true),
@@ -143,7 +144,7 @@ fn predecessors_of_instances(rt: HostRuntime) -> Result<(), Fail> {
     Ok(())
 }
 
-// Blocks, destinations and resources of coefficients, which rise in this order.
+// Blocks, destinations and resources of coefficients; valid ones rise in this order.
 const COEFS: [(&[(u32, u8, u8)], bool); 10] = [
     (&[], true),
     (&[(0, 0, 0), (0, 1, 0)], true),
@@ -177,7 +178,7 @@ fn coefficients_of_instances(rt: HostRuntime) -> Result<(), Fail> {
     Ok(())
 }
 
-// Resources, periods and both ends of intervals, which rise by resource and period.
+// Resources, periods and both ends of intervals; valid ones rise by resource and period.
 const LIMITS: [(&[(u8, u8, i128, i128)], bool); 9] = [
     (&[], true),
     (&[(0, 0, -2, -2), (0, 1, 0, 7)], true),

@@ -1,4 +1,4 @@
-//! The first faulty line, as calls answer it that keep what they read: the program counts alone.
+//! The first invalid line, as calls return it that store what they read: the program only counts.
 
 ghost use Rattle.std.specs.Prelude.{◌≤◌};
 
@@ -29,8 +29,8 @@ fn fault_of_cpit(alloc: Global, n: usize, text: &str) -> Option<Fault>
     fault_in(read_cpit(alloc, n, text.as_bytes()).err()?)
 }
 
-// Texts that stand in the place of one of the ore block, and their first faulty line.
-const FAULTY_TEXTS: [(&str, Fault); 3] = [
+// Texts that replace one of the ore block's texts, and their first invalid line.
+const INVALID_TEXTS: [(&str, Fault); 3] = [
     (
         "0 0 0 0 1000 5000\n",
         (TextFile::Blocks, 1, TextKind::Fields),
@@ -53,8 +53,8 @@ fn is_refused(alloc: Global, text: &str, fault: Fault) -> bool {
 }
 
 #[test]
-fn faulty_lines(rt: HostRuntime) -> Result<(), Fail> {
-    for (place, (text, fault)) in FAULTY_TEXTS.iter().enumerate() {
+fn invalid_lines(rt: HostRuntime) -> Result<(), Fail> {
+    for (place, (text, fault)) in INVALID_TEXTS.iter().enumerate() {
         assert!(rt; is_refused(rt.alloc(), text, *fault), "text {place}");
     }
     let count = (TextFile::Cpit, 3, TextKind::Count);

@@ -1,20 +1,20 @@
-//! Texts that are counted while a feed gives them, in pieces of any size.
+//! Texts that are counted while a feed gives them, in parts of any size.
 
 ghost use Rattle.std.specs.Prelude.{◌≤◌};
 
 use super::{CPIT, PCPSP};
 use devices::feeds::mem_feed::MemFeed;
-use devices::feeds::slurp::{GREATEST_LIMIT, SlurpFault};
+use devices::feeds::slurp::{LARGEST_LIMIT, SlurpFault};
 use minelib_lines::problem::Problem;
 use minelib_reading::{count_arcs, count_blocks, count_model};
 use std::alloc::{AllocError, Global};
 use std::test::Fail;
 use text_lines::text_fault::{LineFault, TextKind};
 
-// What is counted of a text, or the line and the kind of its first fault.
+// The count of a text, or the line and the kind of its first fault.
 type Counted = Result<usize, (u64, TextKind)>;
 
-// Of block files: the mark, CR LF, a last line without an end, blank lines and comments.
+// Block files: with a byte order mark, CR LF, a last line without an end, blank lines and comments.
 const BLOCKS: [(&[u8], Counted); 11] = [
     (b"", Ok(0)),
     (b"\xEF\xBB\xBF", Ok(0)),
@@ -38,7 +38,7 @@ const BLOCKS: [(&[u8], Counted); 11] = [
     (b"0 0 0 0 1 1 0\r\r\n", Err((1, TextKind::Number))),
 ];
 
-// Of precedence files, of so many blocks. What does not rise is marked.
+// Precedence files, for a number of blocks. Lists that do not rise are marked.
 const ARCS: [(usize, &[u8], Counted); 7] = [
     (0, b"", Ok(0)),
     (1, b"\xEF\xBB\xBF", Err((1, TextKind::Missing))),
@@ -49,7 +49,7 @@ const ARCS: [(usize, &[u8], Counted); 7] = [
     (3, b"0 2 2 1\n1 2 2 1\n", Err((2, TextKind::Twice))),
 ];
 
-// The most that a pull gives.
+// The maximum numbers of bytes for a pull.
 const STEPS: [usize; 4] = [1, 2, 7, 1_000_000];
 
 fn cutting(alloc: Global, text: &[u8], step: usize) -> Result<MemFeed, AllocError>
@@ -72,7 +72,7 @@ fn blocks_in_pieces(rt: HostRuntime) -> Result<(), Fail> {
     for (place, (text, wanted)) in BLOCKS.iter().enumerate() {
         for step in STEPS {
             let mut feed = cutting(alloc, text, step)?;
-            let answer = count_blocks(alloc, &mut feed, GREATEST_LIMIT);
+            let answer = count_blocks(alloc, &mut feed, LARGEST_LIMIT);
             assert!(rt; is_counted(&answer, wanted), "{place} {step}");
         }
     }
@@ -85,7 +85,7 @@ fn arcs_in_pieces(rt: HostRuntime) -> Result<(), Fail> {
     for (place, (blocks, text, wanted)) in ARCS.iter().enumerate() {
         for step in STEPS {
             let mut feed = cutting(alloc, text, step)?;
-            let answer = count_arcs(alloc, *blocks, &mut feed, GREATEST_LIMIT);
+            let answer = count_arcs(alloc, *blocks, &mut feed, LARGEST_LIMIT);
             assert!(rt; is_counted(&answer, wanted), "{place} {step}");
         }
     }
@@ -97,18 +97,18 @@ fn models_in_pieces(rt: HostRuntime) -> Result<(), Fail> {
     let alloc = rt.alloc();
     for step in STEPS {
         let mut feed = cutting(alloc, PCPSP.as_bytes(), step)?;
-        let answer = count_model(alloc, Problem::Pcpsp, 2, &mut feed, GREATEST_LIMIT);
+        let answer = count_model(alloc, Problem::Pcpsp, 2, &mut feed, LARGEST_LIMIT);
         assert!(rt; answer == Ok(Ok((1, 2))), "pcpsp {step}");
         let mut feed = cutting(alloc, CPIT.as_bytes(), step)?;
-        let answer = count_model(alloc, Problem::Cpit, 2, &mut feed, GREATEST_LIMIT);
+        let answer = count_model(alloc, Problem::Cpit, 2, &mut feed, LARGEST_LIMIT);
         assert!(rt; answer == Ok(Ok((1, 2))), "cpit {step}");
     }
     Ok(())
 }
 
-// A text whose first line is faulty, the pull that fails or 0 for none, the limit, and what comes before that line: the first pull gives
-// all of the text, the second tells the end.
-const BEHIND_A_FAULT: [(u64, u64, Option<SlurpFault>); 5] = [
+// The pull that fails (0 for none), the limit, and the error that replaces a text's first line, which is invalid. The first pull
+// gives the whole text, the second the end.
+const AFTER_A_FAULT: [(u64, u64, Option<SlurpFault>); 5] = [
     (0, 4, None),
     (0, 3, Some(SlurpFault::TooLong)),
     (1, 4, Some(SlurpFault::FeedFailed)),
@@ -119,7 +119,7 @@ const BEHIND_A_FAULT: [(u64, u64, Option<SlurpFault>); 5] = [
 #[test]
 fn faults_of_feeds_come_first(rt: HostRuntime) -> Result<(), Fail> {
     let alloc = rt.alloc();
-    for (nth, limit, before) in &BEHIND_A_FAULT {
+    for (nth, limit, before) in &AFTER_A_FAULT {
         let bytes = b"x\n0\n".to_vec(alloc)?;
         let mut feed = if *nth == 0 {
             MemFeed::new(bytes)

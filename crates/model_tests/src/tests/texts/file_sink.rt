@@ -1,4 +1,4 @@
-//! A file as a sink: what `pitc`, which begins each file once, does not show.
+//! A file as a sink: what `pitc` does not show, since it begins each file once.
 
 use devices::files::system_slots::SystemSlots;
 use devices::sinks::file_sink::FileSink;
@@ -6,7 +6,7 @@ use devices::sinks::sink::Sink;
 use std::fs;
 use std::test::Fail;
 
-// Whether the file at this path holds this text.
+// Returns whether the file at this path has this text.
 fn holds(rt: &HostRuntime, path: &str, text: &str) -> Result<bool, Fail> {
     Ok(fs::read_to_string(rt, path)?.as_str() == text)
 }
@@ -15,7 +15,7 @@ fn begins<S: Sink>(sink: &mut S) -> bool {
     sink.begin().is_ok()
 }
 
-// Whether a put takes all of this text.
+// Returns whether a put takes all of this text.
 fn takes<S: Sink>(sink: &mut S, text: &str) -> bool {
     match sink.put(text.as_bytes()) {
         Ok(taken) => taken == text.len(),
@@ -25,7 +25,7 @@ fn takes<S: Sink>(sink: &mut S, text: &str) -> bool {
 
 const OLD: &str = "what an earlier program left\n";
 
-// A file is created once: a sink that is asked to begin again refuses, and goes on with the file that it has.
+// A file is created once: a sink that is begun again fails, and continues with its file.
 #[test]
 fn a_file_begun_again(rt: HostRuntime) -> Result<(), Fail> {
     let path = "a_file_begun_again";
@@ -39,7 +39,7 @@ fn a_file_begun_again(rt: HostRuntime) -> Result<(), Fail> {
     Ok(fs::remove_file(&rt, path)?)
 }
 
-// Where a file could not be created, as a folder stands at its path, its sink is used up too.
+// If a file cannot be created, since a folder has its path, its sink is also used up.
 #[test]
 fn a_file_that_could_not_begin(rt: HostRuntime) -> Result<(), Fail> {
     let path = "a_file_that_could_not_begin";

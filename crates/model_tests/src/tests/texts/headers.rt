@@ -1,7 +1,7 @@
-//! The headers of model files, and the titles of their sections: no other module here spells them whole. Some texts stand in full, so that
-//! the macros are tried by texts that are written by hand.
+//! The headers of model files, and the titles of their sections: no other module here has them completely. Some texts are written
+//! out, so that the macros are compared with texts that were written manually.
 
-/// The model files of two blocks under a mill and a dump, as they are written.
+/// The model files of two blocks with a mill and a dump, as they are written.
 pub const WHOLE_UPIT: &str =
     "NAME: one\nTYPE: UPIT\nNBLOCKS: 2\nOBJECTIVE_FUNCTION:\n0 12000\n1 0\n";
 
@@ -11,7 +11,7 @@ pub const WHOLE_PCPSP: &str =
 pub const WHOLE_CPIT: &str =
     "NAME: one\nTYPE: CPIT\nNBLOCKS: 2\nNPERIODS: 2\nNRESOURCE_SIDE_CONSTRAINTS: 1\nDISCOUNT_RATE: 0.1\nOBJECTIVE_FUNCTION:\n0 12000\n1 0\nRESOURCE_CONSTRAINT_COEFFICIENTS:\n0 0 1000\nRESOURCE_CONSTRAINT_LIMITS:\n0 0 L 500.5\n0 1 I 0 900\n";
 
-// The text of a PCPSP, by the values of its header and the lines of its sections.
+// The text of a PCPSP, from the values of its header and the lines of its sections.
 macro_rules! pcpsp {
     {
         name: $name:literal,
@@ -40,7 +40,7 @@ macro_rules! pcpsp {
     };
 }
 
-// That of a CPIT.
+// The text of a CPIT.
 macro_rules! cpit {
     {
         name: $name:literal,

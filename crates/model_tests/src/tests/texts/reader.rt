@@ -17,7 +17,7 @@ use plan_parts::limit::{Bound, Limit};
 use std::alloc::Global;
 use std::test::Fail;
 
-// Predecessors in no order, and the least and greatest of most numbers.
+// Predecessors in no order, and the smallest and largest values of most numbers.
 const AT_THE_EDGE: Texts = [
     "0 0 0 0 0 0 0\n1 9999 9999 9999 1000000 1000000 63\n2 2 0 0 0 0 0\n",
     "0 2 2 1\n1 0\n2 0\n",
@@ -42,7 +42,7 @@ fn are_texts(alloc: Global, instance: &Instance, texts: Texts) -> Result<bool, W
     Ok(true)
 }
 
-// The predecessors of the blocks of nine_above, by identifier.
+// The predecessors of the blocks of nine_above, in order of identifier.
 const LISTS: [&[u32]; 10] = [
     &[2, 4, 5, 6, 8],
     &[],
@@ -56,18 +56,18 @@ const LISTS: [&[u32]; 10] = [
     &[],
 ];
 
-// Whether a block of this identifier is at an index of a bench, weighs a tonne and has no metal.
+// Returns whether the block with this identifier is at an index of a bench, weighs a tonne and has no metal.
 fn is_at(blocks: &[Block], id: usize, x: u16, y: u16, z: u16) -> bool {
     blocks.get(id).copied() == Block::new(x, y, z, 1_000, 0, 0)
 }
 
-// Whether the first block lies below the middle of the others, which stand by y, then x.
+// Returns whether the first block is below the middle of the others, which are in order of y, then x.
 fn are_nine_above(blocks: &[Block]) -> bool {
     is_at(blocks, 0, 1, 1, 0)
         && (0..9u16).all(|at| is_at(blocks, usize::from(at).wrapping_add(1), at % 3, at / 3, 1))
 }
 
-// Whether the block of an identifier has its list and the value of a tonne of waste at the mill.
+// Returns whether the block with an identifier has its list, and the value of a tonne of waste at the mill.
 fn has_parts(instance: &Instance, id: usize, list: &[u32]) -> bool {
     id < instance.preds.len()
         && id < instance.values.len()
@@ -76,7 +76,7 @@ fn has_parts(instance: &Instance, id: usize, list: &[u32]) -> bool {
         && are_millionths(instance.values.of(id), &[-15_000_000])
 }
 
-// Whether all blocks have their lists, and the counts and the NAME are as the texts state.
+// Returns whether all blocks have their lists, and the counts and the NAME are as the texts state.
 fn is_nine_above(instance: &Instance) -> bool {
     are_nine_above(instance.blocks.as_slice())
         && LISTS
@@ -95,12 +95,12 @@ fn nine_above(rt: HostRuntime) -> Result<(), Fail> {
     Ok(())
 }
 
-// The CPIT of two blocks that a text states.
+// Returns the CPIT of two blocks that a text states.
 fn cpit_of(alloc: Global, text: &str) -> Result<Cpit, Fail> {
     Ok(read_cpit(alloc, 2, text.as_bytes())?)
 }
 
-// Whether a CPIT is written as this text.
+// Returns whether a CPIT is written as this text.
 fn is_cpit_text(alloc: Global, cpit: &Cpit, text: &str) -> Result<bool, WriteFault> {
     let mut sink = MemSink::new(alloc);
     write_cpit(alloc, cpit, &mut sink)?;
@@ -119,7 +119,7 @@ macro_rules! with_coef {
     };
 }
 
-// Those with coefficients that a run does not have: no whole kilograms, too many, less than none.
+// CPITs with coefficients that runs do not have: no integer number of kilograms, too large, or negative.
 const OTHER_TONNES: [&str; 3] = [
     with_coef!("1 0 0.0001"),
     with_coef!("1 0 4294967.296"),
@@ -136,7 +136,7 @@ fn other_tonnes(rt: HostRuntime) -> Result<(), Fail> {
     Ok(())
 }
 
-// Those of AT_THE_EDGE, with their destinations.
+// Returns the coefficients of AT_THE_EDGE, with their destinations.
 fn edge_coefs() -> Option<[Coef; 2]> {
     Some([
         Coef {
@@ -170,13 +170,13 @@ fn edge_limits() -> Option<[Limit; 2]> {
     ])
 }
 
-// A coefficient of a CPIT of so many millionths of a tonne.
+// Returns a coefficient of a CPIT with these millionths of a tonne.
 fn cpit_coef(b: u32, r: u8, millionths: i128) -> Option<Coef> {
     let v = Dec::new(millionths)?;
     Some(Coef { b, d: 0, r, v })
 }
 
-// Those of the CPIT with a coefficient of 0.0001 tonnes among others.
+// Returns the coefficients of the CPIT with a coefficient of 0.0001 tonnes among others.
 fn cpit_coefs() -> Option<[Coef; 4]> {
     Some([
         cpit_coef(0, 1, 1_000)?,
@@ -199,9 +199,9 @@ fn has_cpit_coefs(cpit: &Cpit) -> Option<bool> {
     Some(cpit.coefs() == coefs.as_slice())
 }
 
-// What is read lends each of its lists; `nine_above` has blocks, predecessors and values.
+// An instance and a CPIT that were read return references to their lists; `nine_above` has blocks, predecessors and values.
 #[test]
-fn read_lists_are_lent(rt: HostRuntime) -> Result<(), Fail> {
+fn read_lists_are_borrowed(rt: HostRuntime) -> Result<(), Fail> {
     let instance = instance_of(rt.alloc(), AT_THE_EDGE)?;
     assert!(rt; has_edge_lists(&instance) == Some(true));
     let cpit = cpit_of(rt.alloc(), with_coef!("1 0 0.0001"))?;

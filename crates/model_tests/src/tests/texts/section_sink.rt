@@ -1,4 +1,4 @@
-//! Texts one after the other behind what a vector holds.
+//! Texts one after the other, after the bytes of a vector.
 
 use devices::sinks::section_sink::SectionSink;
 use devices::sinks::sink::Sink;
@@ -9,12 +9,12 @@ fn begins<S: Sink>(sink: &mut S) -> bool {
     sink.begin().is_ok()
 }
 
-// Whether a put takes all of this text.
+// Returns whether a put takes all of this text.
 fn takes<S: Sink>(sink: &mut S, text: &str) -> bool {
     sink.put(text.as_bytes()).ok() == Some(text.len())
 }
 
-// What a sink holds that takes a text, is begun again and takes another one; and then a third one under a line.
+// Returns the bytes of a sink that takes a text, is begun again and takes another text; and then a third one after a line.
 fn held(alloc: Global) -> Result<Option<Vec<u8>>, Fail> {
     let mut sink = SectionSink::new(b"front\n".to_vec(alloc)?);
     if !begins(&mut sink) || !takes(&mut sink, "the first and longer text\n") {
@@ -30,7 +30,7 @@ fn held(alloc: Global) -> Result<Option<Vec<u8>>, Fail> {
     Ok(Some(sink.into_vec()))
 }
 
-// A text that is begun again gives up what it had, and nothing of what stands before it.
+// A text that is begun again drops its bytes, but no bytes before the text.
 #[test]
 fn a_section_begun_again(rt: HostRuntime) -> Result<(), Fail> {
     let held = held(rt.alloc())?.ok_or("a refusal")?;

@@ -22,10 +22,11 @@ const TEXTS: [(TextName, &str); 5] = [
     (TextName::Cpit, WHOLE_CPIT),
 ];
 
-// How many bytes a sink takes at a time, and below which number the call is that fails, where 0 is none.
+// The number of bytes that a sink takes at a time, and the end (exclusive) of the numbers of failing calls; call 0 is none.
 const SINKS: [(usize, u64); 3] = [(1, 1), (2, 1), (7, 45)];
 
-// A sink that fails at this call of a writer holds a front of the text: none before it begins, and nothing before its first put.
+// A sink that fails at this call of a writer has a prefix of the text: it is not begun if the first call fails, and has no byte if
+// its first put fails.
 fn is_cut_off(sink: &MemSink, text: &[u8], nth: u64) -> bool {
     match nth {
         1 => !sink.begun(),
@@ -34,7 +35,8 @@ fn is_cut_off(sink: &MemSink, text: &[u8], nth: u64) -> bool {
     }
 }
 
-// Whether a sink fails at this call, or takes all where the text is written with fewer: one begins, and the others take the bytes.
+// Returns whether a sink fails at this call, or takes the whole text if the writer needs fewer calls: one begins, and the others
+// take the bytes.
 fn ends_well(
     alloc: Global,
     name: TextName,
@@ -78,7 +80,7 @@ fn failing_devices(rt: HostRuntime) -> Result<(), Fail> {
     Ok(())
 }
 
-// A CPIT that is built has the text that is written where it is not.
+// A built CPIT has the text that is also written without building it.
 #[test]
 fn built_cpit(rt: HostRuntime) -> Result<(), Fail> {
     let instance = instance_of(rt.alloc(), LIMITED)?;

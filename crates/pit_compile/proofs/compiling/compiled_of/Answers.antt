@@ -1,5 +1,6 @@
-use Rattle.std.proofs.Common.{◌≡◌, ◌≤◌, List, None, map, sym, ◌∙◌, ap, subst, arith, length, All}
+use Rattle.std.proofs.Common.{◌≡◌, ◌≤◌, List, None, sym, ◌∙◌, ap, subst, arith, length, All}
 use Rattle.std.proofs.lemmas.Result.{err_from_is_err_and}
+use Rattle.devices.specs.feeds.FeedState.{all_remaining}
 use Rattle.lane.specs.MessageKinds.{row_count}
 use Rattle.lane.specs.declared.message.Taken.{Taken}
 use Rattle.mine_instance.specs.OfModel.{instance}
@@ -12,7 +13,7 @@ use Rattle.pit_compile.proofs.Compiles.{AreRowsOfTexts, compiles, repeat_refused
 use Rattle.pit_compile.proofs.PlainRows.{blocks_are}
 use Rattle.pit_compile.proofs.Readers.{all_read, as_many, not_read}
 use Rattle.pit_compile.proofs.RowFacts.{AreZoneFiles, few_sents}
-use Rattle.pit_compile.proofs.BehindFacts.{read_behind, repeat_behind}
+use Rattle.pit_compile.proofs.AfterStartFacts.{read_after, repeat_after}
 use Rattle.pit_compile.proofs.compiling.compiled_of.Goals as goal
 use Rattle.pit_compile.proofs.compiling.compiled_of.Goals.{In_err-require_read, In_ok-rows}
 use Rattle.pit_compile.proofs.compiling.compiled_of.Given.{Over}
@@ -20,17 +21,17 @@ use Rattle.pit_compile.proofs.compiling.compiled_of.Given.{Over}
 pub require_read-requires : goal.require_read-requires
 require_read-requires g c =
     let handed = c.args.handed in
-    let many = as_many g.F.Feed.left g.F.Feed.is_sure g.F.Feed.failures c.args.plan.now.grid 0 c.args._given
+    let many = as_many g.F.Feed.state c.args.plan.now.grid 0 c.args._given
     handed.answers.items handed.gathered.sent c.requires.handed.read in
-    let lent = ap length c.as_slice.ensures.value in
-    omega (arith, many.0, lent, c.requires.fit.few_files)
+    let borrowed = ap length c.as_slice.ensures.value in
+    omega (arith, many.0, borrowed, c.requires.fit.few_files)
 
 -- why the first file that was not read was not
 refused : (g : Over) (c : In_err-require_read g)
-    → IsNotCompiled c.args.plan.now (map g.F.Feed.left c.args._given)
-    (HasFailed g.F.Feed.is_sure g.F.Feed.failures c.args._given) c.in_err-require_read.field-0.0
+    → IsNotCompiled c.args.plan.now (all_remaining g.F.Feed.state c.args._given)
+    (HasFailed g.F.Feed.state c.args._given) c.in_err-require_read.field-0.0
 refused g c =
-    not_read g.F.Feed.left g.F.Feed.is_sure g.F.Feed.failures c.args.plan.now c.args._given c.args.handed.answers.items c.args.handed.gathered.sent c.in_err-require_read.field-0.0 c.requires.handed.read
+    not_read g.F.Feed.state c.args.plan.now c.args._given c.args.handed.answers.items c.args.handed.gathered.sent c.in_err-require_read.field-0.0 c.requires.handed.read
     (ap (refusal_in 0) (sym c.as_slice.ensures.value) ∙ c.in_err-require_read.ensures.refused)
 
 pub returns-in_err-require_read-clause-refused : goal.returns-in_err-require_read-clause-refused
@@ -38,20 +39,20 @@ returns-in_err-require_read-clause-refused g c =
     let p = err_from_is_err_and c.from_residual.result c.from_residual.ensures.1 in
     rw (p.1, p.2) (refused g (goal.at.returns-in_err-require_read-clause-refused g c).In_err-require_read)
 
-pub returns-in_err-require_read-clause-behind : goal.returns-in_err-require_read-clause-behind
-returns-in_err-require_read-clause-behind g c =
+pub returns-in_err-require_read-clause-following : goal.returns-in_err-require_read-clause-following
+returns-in_err-require_read-clause-following g c =
     let p = err_from_is_err_and c.from_residual.result c.from_residual.ensures.1 in
-    rw (p.1, p.2) (read_behind 0 c.as_slice.result.now c.in_err-require_read.field-0.0 c.in_err-require_read.ensures.refused)
+    rw (p.1, p.2) (read_after 0 c.as_slice.result.now c.in_err-require_read.field-0.0 c.in_err-require_read.ensures.refused)
 
-pub returns-in_err-instance-clause-behind : goal.returns-in_err-instance-clause-behind
-returns-in_err-instance-clause-behind g c =
+pub returns-in_err-instance-clause-following : goal.returns-in_err-instance-clause-following
+returns-in_err-instance-clause-following g c =
     let p = err_from_is_err_and c.from_residual-in_err-instance.result c.from_residual-in_err-instance.ensures.1 in
-    rw (p.1, p.2) (repeat_behind _ c.in_err-instance.field-0.0 c.in_err-instance.ensures.refused)
+    rw (p.1, p.2) (repeat_after _ c.in_err-instance.field-0.0 c.in_err-instance.ensures.refused)
 
 pub collect-requires-clause-files : goal.collect-requires-clause-files
 collect-requires-clause-files g c =
     let handed = c.args.handed in
-    let many = as_many g.F.Feed.left g.F.Feed.is_sure g.F.Feed.failures c.args.plan.now.grid 0 c.args._given
+    let many = as_many g.F.Feed.state c.args.plan.now.grid 0 c.args._given
     handed.answers.items handed.gathered.sent c.requires.handed.read in
     many.1 ∙ c.requires.fit.files_fit
 
@@ -62,16 +63,16 @@ collect-requires-clause-few g c =
     let files : AreZoneFiles = record { few = c.zone_files.ensures.few; own = c.zone_files.ensures.own } in
     let none : refusal_in 0 handed.answers.items ≡ None = ap (refusal_in 0) (sym c.as_slice.ensures.value)
     ∙ c.in_ok-require_read.ensures.read in
-    let read = all_read g.F.Feed.left g.F.Feed.is_sure g.F.Feed.failures grid c.args._given handed.answers.items
+    let read = all_read g.F.Feed.state grid c.args._given handed.answers.items
     handed.gathered.sent c.requires.handed.read none in
     subst (λ (sents : List (List Taken)). All (λ sent. row_count sent ≤ 1000000) sents) (sym read.sent) (few_sents grid files 0 read.texts)
 
 -- what the collected rows say of the model
 model : (g : Over) (c : In_ok-rows g)
-    → AreRowsOfTexts c.args.plan.now (map g.F.Feed.left c.args._given) c.args.handed.gathered.sent c.in_ok-rows.rows
+    → AreRowsOfTexts c.args.plan.now (all_remaining g.F.Feed.state c.args._given) c.args.handed.gathered.sent c.in_ok-rows.rows
 model g c =
     let few : length c.args.plan.now.cones ≤ 64 = omega (arith, c.requires.fit.files_fit, c.requires.fit.few_files) in
-    compiles g.F.Feed.left g.F.Feed.is_sure g.F.Feed.failures c.args.plan.now c.args._given c.args.handed.answers.items c.args.handed.gathered.sent c.in_ok-rows.rows
+    compiles g.F.Feed.state c.args.plan.now c.args._given c.args.handed.answers.items c.args.handed.gathered.sent c.in_ok-rows.rows
     (record { few = c.zone_files.ensures.few; own = c.zone_files.ensures.own })
     c.requires.fit.files_fit few c.requires.handed.read
     (ap (refusal_in 0) (sym c.as_slice.ensures.value) ∙ c.in_ok-require_read.ensures.read) c.in_ok-rows.ensures
@@ -82,7 +83,7 @@ instance_of_rows-requires g c = (model g (goal.at.instance_of_rows-requires g c)
 pub returns-in_err-instance-clause-refused : goal.returns-in_err-instance-clause-refused
 returns-in_err-instance-clause-refused g c =
     let p = err_from_is_err_and c.from_residual-in_err-instance.result c.from_residual-in_err-instance.ensures.1 in
-    rw (p.1, p.2) (repeat_refused c.args.plan.now _ (HasFailed g.F.Feed.is_sure g.F.Feed.failures c.args._given) _ _ c.in_err-instance.field-0.0
+    rw (p.1, p.2) (repeat_refused c.args.plan.now _ (HasFailed g.F.Feed.state c.args._given) _ _ c.in_err-instance.field-0.0
     (model g (goal.at.returns-in_err-instance-clause-refused g c).In_ok-rows) c.in_err-instance.ensures.refused)
 
 pub returns-clause-done : goal.returns-clause-done

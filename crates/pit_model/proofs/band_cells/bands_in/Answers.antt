@@ -1,6 +1,6 @@
 use Rattle.std.proofs.Common.{◌∙◌, sym, arith, length-append}
 use Rattle.std.proofs.lemmas.List.Elements.{All-push}
-use Rattle.plan_parts.specs.formulas.BandsKept.{IsBand}
+use Rattle.plan_parts.specs.formulas.BandsInvariant.{IsBand}
 use Rattle.pit_model.proofs.BandSteps.{bands_more}
 use Rattle.pit_model.proofs.band_cells.bands_in.Goals as goal
 

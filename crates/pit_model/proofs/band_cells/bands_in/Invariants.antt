@@ -1,6 +1,6 @@
 use Rattle.std.proofs.Common.{◌≡◌, ◌+◌, ◌*◌, length, All}
 use Rattle.std.specs.Prelude.{drop}
-use Rattle.plan_parts.specs.formulas.BandsKept.{IsBand}
+use Rattle.plan_parts.specs.formulas.BandsInvariant.{IsBand}
 use Rattle.pit_model.specs.DestinationRecords.{bands_in}
 use Rattle.pit_model.proofs.BandSteps.{bands_from}
 use Rattle.pit_model.proofs.band_cells.bands_in.Given as goal

@@ -1,6 +1,6 @@
 use Rattle.std.proofs.Common.{◌∙◌, ap}
 use Rattle.std.specs.List.{insert, position_or_len}
-use Rattle.plan_parts.specs.PlanKept.{stands_before}
+use Rattle.plan_parts.specs.PlanInvariant.{stands_before}
 use Rattle.pit_model.proofs.Limits.{inserted}
 use Rattle.pit_model.proofs.limit_cells.insert_limit.Goals as goal
 

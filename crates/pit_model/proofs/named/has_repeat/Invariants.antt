@@ -1,5 +1,5 @@
 use Rattle.std.proofs.Common.{◌≡◌, length}
-use Rattle.plan_parts.specs.PlanKept.{has_repeat}
+use Rattle.plan_parts.specs.PlanInvariant.{has_repeat}
 use Rattle.pit_model.proofs.named.has_repeat.Given as goal
 
 abbrev pub invariant-loop-rest : goal.invariant-loop-rest

@@ -1,4 +1,4 @@
-//! Blocks that follow one another, and of which each has one more in a row than the one before it, or one fewer, or as many.
+//! Stretches of consecutive blocks whose numbers of blocks in a row grow by 1, shrink by 1 or stay equal.
 
 ghost use Rattle.std.specs.Prelude.{◌≡◌, ◌+◌, ◌*◌, ◌<◌, ◌≤◌, ◌^◌, All, if◌then◌else◌, length, slice_index, sum_by, take};
 ghost use Rattle.std.specs.List.Sorted.{IsStrictlyIncreasing};
@@ -12,7 +12,7 @@ use crate::cones::cone_rows::Row;
 use crate::lists::row_runs::Hint;
 use crate::places::Places;
 
-/// So many blocks that have so many in a row together, and the row's run for the last of them.
+/// The number of blocks in a stretch, the number of arcs of all of them in a row, and the row's range for the last of them.
 #[derive(Clone, Copy, Debug)]
 pub struct Stretch {
     pub blocks: usize,
@@ -20,8 +20,8 @@ pub struct Stretch {
     pub last: Hint,
 }
 
-/// What the blocks from the place `k` on have in a row, as far as it is evenly more or fewer. `run` is the row's run for the first of them.
-/// `follow` tells of each how many from it on follow one another.
+/// Returns the stretch from index `k` on, as far as the numbers in the row change evenly. `run` is the row's range for the first block.
+/// `follow` has, for each code, the number of codes from it on that follow one another.
 #[inline(always)]
 pub fn stretch_from(
     places: &Places,
@@ -67,14 +67,14 @@ pub fn stretch_from(
     }
 }
 
-// How where codes from a target on begin goes on: for so many steps of the target it moves by one each, or stays.
+// How the start of the codes from a target on changes: for `steps` steps of the target it moves by 1 each, or stays.
 #[derive(Clone, Copy, Debug)]
 struct Course {
     steps: u64,
     moves: bool,
 }
 
-// How it goes on from this target, for which it is `start`.
+// Returns the course from this target, whose start is `start`.
 #[inline(always)]
 fn course_of(places: &Places, alike: &[u16], target: u64, start: usize) -> Course
     requires alike { FollowAlong places.now.codes.items alike.now }
@@ -101,7 +101,7 @@ fn course_of(places: &Places, alike: &[u16], target: u64, start: usize) -> Cours
     }
 }
 
-// Where it is so many steps further.
+// Returns the start after `steps` steps.
 #[inline(always)]
 fn moved(course: Course, start: u32, steps: u32) -> u32
     requires { start + steps < 2 ^ 32 }

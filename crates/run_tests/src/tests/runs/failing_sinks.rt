@@ -1,4 +1,4 @@
-//! Runs one of whose sinks fails at one of its calls.
+//! Runs in which a sink fails at one of its calls.
 
 use super::{
     ENOUGH, Fail, Global, MILL, MemSink, Refusal, Sinks, TextName, Threads, Wait, answer, begun,
@@ -6,8 +6,8 @@ use super::{
 };
 use crate::tests::watch::{OPEN, Watch};
 
-// A sink, which of its calls fails, which sinks are begun then, and how many texts are whole. Each text is begun and then put at once, so
-// its third call does not come.
+// A sink, the number of its call that fails, the sinks that are begun then, and the number of complete files. Each file is begun
+// and then put in one call, so the third call does not occur.
 const SINKS: [(TextName, u64, [bool; 5], usize); 15] = [
     (TextName::Blocks, 1, [false, false, false, false, false], 0),
     (TextName::Blocks, 2, [true, false, false, false, false], 0),
@@ -26,7 +26,7 @@ const SINKS: [(TextName, u64, [bool; 5], usize); 15] = [
     (TextName::Cpit, 3, [true, true, true, true, true], 5),
 ];
 
-// What a run of one valuer on two rows answers.
+// Returns the result of a run with one valuer on two rows.
 fn run_into<R: Threads + Wait + Sync>(
     rt: &R,
     alloc: Global,
@@ -46,7 +46,7 @@ fn run_into<R: Threads + Wait + Sync>(
     )
 }
 
-// So many of the texts are those of the other sinks, and the others are empty.
+// Returns whether the first `texts` files equal the other sinks' files, and the remaining ones are empty.
 fn hold_texts(sinks: &Sinks<MemSink>, others: &Sinks<MemSink>, texts: usize) -> bool {
     for (place, name) in TextName::all().iter().enumerate() {
         let bytes = sink_of(sinks, *name).bytes();

@@ -1,7 +1,7 @@
-//! Runs of random models, with feeds that cut and fail, gates that delay, sinks that are short and fail, and starts that are refused. Each
-//! answer and each text is compared with what is known of the model.
+//! Runs of random models, with feeds that cut and fail, gates that delay, sinks that take few bytes and fail, and starts that are
+//! refused. Each result and each file is compared with what is known of the model.
 //!
-//! A test makes a few of them. `tools/random-runs` makes thousands, by the environment variables `RANDOM_RUNS` and `RANDOM_SEED`.
+//! A test makes a few runs. `tools/random-runs` makes thousands, by the environment variables `RANDOM_RUNS` and `RANDOM_SEED`.
 
 ghost use Rattle.std.specs.Prelude.{◌<◌, ◌≤◌};
 
@@ -23,7 +23,7 @@ struct Dice {
 }
 
 impl Dice {
-    // A number below this one.
+    // Returns a number below `sides`.
     fn roll(&mut self, sides: u64) -> u64
         requires { 1 ≤ sides }
         ensures { result < sides }
@@ -35,7 +35,7 @@ impl Dice {
         (self.state >> 33) % sides
     }
 
-    // Once in so many times.
+    // Returns `true` once in `sides` times.
     fn once_in(&mut self, sides: u64) -> bool
         requires { 1 ≤ sides }
     {
@@ -43,20 +43,20 @@ impl Dice {
     }
 }
 
-// A zone file, and what is wrong with it: a last row without a grade, and the pull that fails, or 0.
+// A zone file with its errors: whether its last row has no grade, and the pull that fails, or 0.
 #[derive(Clone, Copy, Drop)]
 struct Spoiled {
     file: u8,
-    is_faulty: bool,
+    is_invalid: bool,
     failing: u64,
 }
 
-// A model of blocks of one tonne of waste along x, each of which costs 15 hundreds of cents in the mill.
+// A model of blocks along x, each a tonne of waste that costs 15 hundreds of cents in the mill.
 #[derive(Drop)]
 struct Model {
-    // of each block, by x
+    // The file of each block, in order of x.
     file_of: Vec<u8>,
-    // the file at whose end the block at 0 stands again
+    // The file with the block at 0 again at its end.
     again: Option<u8>,
     files: Vec<Spoiled>,
 }
@@ -74,7 +74,7 @@ fn random_places(alloc: Global, dice: &mut Dice, files: u8) -> Result<Vec<u8>, F
 fn random_files(alloc: Global, dice: &mut Dice, files: u8) -> Result<Vec<Spoiled>, Fail> {
     let mut spoiled = Vec::new(alloc);
     for file in 0..files {
-        let is_faulty = dice.once_in(16);
+        let is_invalid = dice.once_in(16);
         let failing = if dice.once_in(16) {
             1 + dice.roll(3)
         } else {
@@ -82,7 +82,7 @@ fn random_files(alloc: Global, dice: &mut Dice, files: u8) -> Result<Vec<Spoiled
         };
         spoiled.push(Spoiled {
             file,
-            is_faulty,
+            is_invalid,
             failing,
         })?;
     }
@@ -105,7 +105,7 @@ fn random_model(alloc: Global, dice: &mut Dice, files: u8) -> Result<Model, Fail
     })
 }
 
-// The number of the last good row of a file, where the header is row 1.
+// Returns the number of the last valid row of a file; the header is row 1.
 fn last_row(model: &Model, file: u8) -> u32 {
     let mut row = 1u32;
     for other in &model.file_of {
@@ -131,13 +131,13 @@ fn zone_text(alloc: Global, model: &Model, zone: Spoiled) -> Result<Vec<u8>, Fai
     if model.again == Some(zone.file) {
         text.extend_from_slice(b"0,0,0,1,0\n")?;
     }
-    if zone.is_faulty {
+    if zone.is_invalid {
         text.extend_from_slice(b"0,0,0,1,?\n")?;
     }
     Ok(text)
 }
 
-// A feed of each file: one that fails gives all at its first pull.
+// Returns a feed for each file. A failing feed gives all bytes at its first pull.
 fn feeds_of_model(alloc: Global, model: &Model, dice: &mut Dice) -> Result<Vec<MemFeed>, Fail> {
     let mut feeds = Vec::new(alloc);
     for spoiled in &model.files {
@@ -151,14 +151,14 @@ fn feeds_of_model(alloc: Global, model: &Model, dice: &mut Dice) -> Result<Vec<M
     Ok(feeds)
 }
 
-// The answer of the least file that does not come to its end. The first pull gives all, and the second tells the end.
+// Returns the error of the first file that is not read to its end. The first pull gives all bytes, the second the end.
 fn fault_in(model: &Model) -> Option<Refusal> {
     for spoiled in &model.files {
         let file = spoiled.file;
         if spoiled.failing == 1 || spoiled.failing == 2 {
             return Some(Refusal::FeedFailed { file });
         }
-        if spoiled.is_faulty {
+        if spoiled.is_invalid {
             let fault = RowFault {
                 row: last_row(model, file).saturating_add(1),
                 column: Column::Grade,
@@ -170,7 +170,8 @@ fn fault_in(model: &Model) -> Option<Refusal> {
     None
 }
 
-// The block at 0 is the first of its file. The row that comes first in the order of the files is the one that is repeated.
+// Returns the error for a repeated block. The block at 0 is the first of its file. The row that is first in the order of the files
+// is the repeated one.
 fn same_in(model: &Model) -> Option<Refusal> {
     let file = model.again?;
     let first = RowAt {
@@ -191,7 +192,7 @@ fn same_in(model: &Model) -> Option<Refusal> {
     })
 }
 
-// Which sink fails, if any; at which call; and how many bytes of a put it takes at most, which may be all.
+// The sink that fails, the number of its failing call, and the maximum number of bytes that it takes of a put.
 #[derive(Clone, Copy, Drop)]
 struct Failing {
     which: TextName,
@@ -199,7 +200,7 @@ struct Failing {
     step: usize,
 }
 
-// How a run is made.
+// The settings of a run.
 #[derive(Clone, Copy, Drop)]
 struct Making {
     valuers: u64,
@@ -237,7 +238,7 @@ fn random_making(dice: &mut Dice) -> Making {
     }
 }
 
-// A sink that takes few bytes at a time, or the one that fails.
+// Returns a sink that takes few bytes at a time, or the failing one.
 fn random_sink(
     alloc: Global,
     dice: &mut Dice,
@@ -262,7 +263,7 @@ fn random_sinks(alloc: Global, dice: &mut Dice, failing: Option<Failing>) -> Sin
     }
 }
 
-// A model file with `?` in the place of the number of blocks, and of their lines. The other texts are such lines alone.
+// Returns a model file with `?` for the number of blocks, and for their lines. Other files have only such lines.
 fn frame_of(name: TextName) -> &'static str {
     match name {
         TextName::Blocks | TextName::Prec => "",
@@ -282,7 +283,7 @@ fn frame_of(name: TextName) -> &'static str {
     }
 }
 
-// The line of a block in a text.
+// Returns the line of a block in a file.
 fn line_of(alloc: Global, name: TextName, x: usize, file: u8) -> Result<String, Fail> {
     Ok(match name {
         TextName::Blocks => format!(in alloc; "{x} {x} 0 0 1 0 {file}\n")?,
@@ -291,7 +292,7 @@ fn line_of(alloc: Global, name: TextName, x: usize, file: u8) -> Result<String, 
     })
 }
 
-// A text of the instance of a model.
+// Returns a file of a model's instance.
 fn text_of(alloc: Global, model: &Model, name: TextName) -> Result<String, Fail> {
     let mut parts = frame_of(name).split("?\n");
     let mut text = String::from_str(alloc, parts.next().unwrap_or(""))?;
@@ -307,7 +308,8 @@ fn text_of(alloc: Global, model: &Model, name: TextName) -> Result<String, Fail>
     Ok(text)
 }
 
-// The sink that stops the run, if any. A text is begun and then put at once, where it is not empty, and what was not taken is put again.
+// Returns the error of the sink that stops the run, if one does. A file is begun, and then put in one call if it is not empty;
+// bytes that were not taken are put again.
 fn stopped_by(
     alloc: Global,
     model: &Model,
@@ -326,7 +328,7 @@ fn stopped_by(
     })
 }
 
-// Why the run is refused, if it is.
+// Returns the error of the run, if it fails.
 fn refusal_of(alloc: Global, model: &Model, making: &Making) -> Result<Option<Refusal>, Fail> {
     if u64::from(making.starts) < making.valuers.saturating_add(model.files.len() as u64) {
         return Ok(Some(Refusal::NoThread));
@@ -337,19 +339,19 @@ fn refusal_of(alloc: Global, model: &Model, making: &Making) -> Result<Option<Re
     }
 }
 
-// How many texts are whole behind this refusal, and how many bytes the sink that failed took, if one did.
+// Returns the number of complete files after this error, and the number of bytes that the failing sink took, if one failed.
 fn left_by(refusal: Option<Refusal>, failing: Option<Failing>) -> (usize, Option<usize>) {
     match (refusal, failing) {
         (None, _) => (5, None),
         (Some(Refusal::SinkFailed { which }), Some(Failing { nth, step, .. })) => {
-            let front = (nth.saturating_sub(2) as usize).saturating_mul(step);
-            (place_of(which), Some(front))
+            let prefix = (nth.saturating_sub(2) as usize).saturating_mul(step);
+            (place_of(which), Some(prefix))
         }
         _ => (0, None),
     }
 }
 
-// The place of a text in the order of writing.
+// Returns the place of a file in the order of writing.
 fn place_of(which: TextName) -> usize {
     match which {
         TextName::Blocks => 0,
@@ -360,14 +362,14 @@ fn place_of(which: TextName) -> usize {
     }
 }
 
-// Whether a sink is left so: before those that are whole, at the one that failed, or not begun.
-fn is_left(sink: &MemSink, text: &[u8], place: usize, whole: usize, front: Option<usize>) -> bool {
+// Returns whether a sink is in its expected state: complete, cut off by its failure, or not begun.
+fn is_left(sink: &MemSink, text: &[u8], place: usize, whole: usize, prefix: Option<usize>) -> bool {
     if place < whole {
         return sink.begun() && sink.bytes() == text;
     }
-    match front {
-        Some(front) if place == whole => {
-            let (taken, _) = text.split_at(front.min(text.len()));
+    match prefix {
+        Some(prefix) if place == whole => {
+            let (taken, _) = text.split_at(prefix.min(text.len()));
             sink.bytes() == taken
         }
         _ => !sink.begun() && sink.bytes().is_empty(),
@@ -379,19 +381,19 @@ fn are_left(
     model: &Model,
     sinks: &Sinks<MemSink>,
     whole: usize,
-    front: Option<usize>,
+    prefix: Option<usize>,
 ) -> Result<bool, Fail> {
     for name in TextName::all() {
         let text = text_of(alloc, model, name)?;
         let sink = sink_of(sinks, name);
-        if !is_left(sink, text.as_bytes(), place_of(name), whole, front) {
+        if !is_left(sink, text.as_bytes(), place_of(name), whole, prefix) {
             return Ok(false);
         }
     }
     Ok(true)
 }
 
-// What a run of a model answers.
+// Returns the result of a run of a model.
 fn run_of<R: Threads + Wait + Sync>(
     rt: &R,
     alloc: Global,
@@ -421,7 +423,7 @@ fn run_of<R: Threads + Wait + Sync>(
     )
 }
 
-// One run, which has to answer what is known of its model, and leave the sinks so.
+// Makes one run, and tests its result and its sinks by what is known of its model.
 fn random_run<R: Threads + Wait + Sync + Abort>(
     rt: &R,
     alloc: Global,
@@ -440,15 +442,15 @@ fn random_run<R: Threads + Wait + Sync + Abort>(
         None => Ok(model.file_of.len() as u64),
     };
     assert!(rt; answered == expected, "seed {seed}");
-    let (whole, front) = left_by(refusal, making.failing);
+    let (whole, prefix) = left_by(refusal, making.failing);
     assert!(rt;
-        are_left(alloc, &model, &sinks, whole, front)?,
+        are_left(alloc, &model, &sinks, whole, prefix)?,
         "seed {seed}"
     );
     Ok(())
 }
 
-// The number that an environment variable states, or this one.
+// Returns the number that an environment variable states, or `otherwise`.
 fn number_of(rt: &HostRuntime, name: &str, otherwise: u64) -> u64 {
     match env::var(rt, name) {
         Ok(text) => text.as_str().parse::<u64>().unwrap_or(otherwise),

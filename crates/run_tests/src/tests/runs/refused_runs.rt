@@ -12,9 +12,9 @@ use pit_compile::settings::SettingsFault;
 use std::sync::atomic::Ordering;
 use zone_csv::row_fault::{Column, RowFault, RowFaultKind};
 
-const FAULTY: ZoneFile = ("0,0,0,1,?\n", 0);
+const INVALID: ZoneFile = ("0,0,0,1,?\n", 0);
 
-// Good files, of which one fails at a pull: the first one gives all, and the second tells the end.
+// Valid files, one of which fails at a pull: the first pull gives all bytes, the second the end.
 const AT_1: &[ZoneFile] = &[ORE, ("20,0,0,1,0\n", 1)];
 
 const AT_2: &[ZoneFile] = &[ORE, ("20,0,0,1,0\n", 2)];
@@ -23,11 +23,11 @@ const AT_3: &[ZoneFile] = &[ORE, ("20,0,0,1,0\n", 3)];
 
 const THREE: &[ZoneFile] = &[ORE, EAST, ("20,0,0,1,0\n", 0)];
 
-const FAULT_OF_3: &[ZoneFile] = &[FAULTY, ORE, EAST];
+const FAULT_OF_3: &[ZoneFile] = &[INVALID, ORE, EAST];
 
-const FAULT_FIRST: &[ZoneFile] = &[FAULTY, ("20,0,0,1,0\n", 1)];
+const FAULT_FIRST: &[ZoneFile] = &[INVALID, ("20,0,0,1,0\n", 1)];
 
-const FAULT_LAST: &[ZoneFile] = &[("20,0,0,1,0\n", 1), FAULTY];
+const FAULT_LAST: &[ZoneFile] = &[("20,0,0,1,0\n", 1), INVALID];
 
 const FAULT: Refusal = Refusal::Row {
     file: 0,
@@ -57,8 +57,9 @@ const DESTINATIONS: Refusal = Refusal::Settings(SettingsFault::Destinations);
 
 const NO_THREAD: Refusal = Refusal::NoThread;
 
-// A run: how many zones the plan of a mill has, and the plan whose destinations it is given; the files, and how often each stands; the
-// numbers of valuers, of places of the lane and of starts of threads; and then the refusal, if any, and the readers that are started.
+// A run: the number of zones in the plan of a mill, and the plan with its destinations; the files, and the number of times that
+// each is used; the numbers of valuers, of places in the lane and of thread starts; and then the error, if any, and the readers
+// that are started.
 type Run = (
     usize,
     &'static [u8],
@@ -71,7 +72,7 @@ type Run = (
     u64,
 );
 
-// The settings come first, the destinations last among them.
+// Errors of settings come first, the error of destinations last among them.
 const SETTINGS: [Run; 10] = [
     (1, MILL, &[ORE], 1, 1, 1, ENOUGH, None, 1),
     (1, MILL, &[ORE], 1, 64, 4096, ENOUGH, None, 1),
@@ -80,12 +81,12 @@ const SETTINGS: [Run; 10] = [
     (1, DUMP, &[ORE], 0, 0, 0, 0, Some(FILES), 0),
     (1, DUMP, &[ORE], 1, 0, 0, 0, Some(VALUERS), 0),
     (1, MILL, &[ORE], 1, 65, 1, ENOUGH, Some(VALUERS), 0),
-    (1, DUMP, &[FAULTY], 1, 1, 0, 0, Some(CAPACITY), 0),
+    (1, DUMP, &[INVALID], 1, 1, 0, 0, Some(CAPACITY), 0),
     (1, MILL, &[ORE], 1, 1, 4097, ENOUGH, Some(CAPACITY), 0),
-    (1, DUMP, &[FAULTY], 1, 1, 1, 0, Some(DESTINATIONS), 0),
+    (1, DUMP, &[INVALID], 1, 1, 1, 0, Some(DESTINATIONS), 0),
 ];
 
-// A refused start comes before a faulty file.
+// A refused start is reported before an invalid file.
 const STARTS: [Run; 9] = [
     (3, MILL, THREE, 1, 2, 1, 0, Some(NO_THREAD), 0),
     (3, MILL, THREE, 1, 2, 1, 1, Some(NO_THREAD), 0),
@@ -94,12 +95,12 @@ const STARTS: [Run; 9] = [
     (3, MILL, THREE, 1, 2, 1, 4, Some(NO_THREAD), 11),
     (3, MILL, THREE, 1, 2, 1, 5, None, 111),
     (3, MILL, FAULT_OF_3, 1, 2, 1, 3, Some(NO_THREAD), 1),
-    // 64 files, with one start too few, and with enough
+    // 64 files, with one start too few, and with enough.
     (64, MILL, &[ORE], 64, 64, 1, 127, Some(NO_THREAD), 60_111),
     (64, MILL, &[ORE], 64, 64, 1, 128, Some(REPEATED), 61_111),
 ];
 
-// The least file that is refused decides.
+// The first file with an error decides.
 const FEEDS: [Run; 5] = [
     (2, MILL, AT_1, 1, 2, 1, ENOUGH, Some(FAILED_1), 11),
     (2, MILL, AT_2, 1, 2, 1, ENOUGH, Some(FAILED_1), 11),
@@ -108,7 +109,7 @@ const FEEDS: [Run; 5] = [
     (2, MILL, FAULT_FIRST, 1, 2, 1, ENOUGH, Some(FAULT), 11),
 ];
 
-// What a run answers, and whether no sink was begun.
+// Returns the result of a run, and whether no sink was begun.
 fn untouched_answer<R: Threads + Wait + Sync>(
     rt: &R,
     alloc: Global,
@@ -125,7 +126,7 @@ fn untouched_answer<R: Threads + Wait + Sync>(
     Ok((answered, begun(&sinks) == [false; 5]))
 }
 
-// Whether a run answers so, has begun no sink where it is refused, and has started these readers.
+// Returns whether a run has this result, began no sink if it failed, and started these readers.
 fn is_answered<R: Threads + Wait + Sync>(rt: &R, alloc: Global, run: &Run) -> Result<bool, Fail> {
     let (zones, plan, files, times, valuers, capacity, starts, refusal, readers) = *run;
     let watch = Watch::new(alloc, OPEN)?;
@@ -167,7 +168,8 @@ fn failing_devices(rt: HostRuntime) -> Result<(), Fail> {
     Ok(())
 }
 
-// A plan of a mill and a dump, with a resource and its limits; its zone file, one of whose blocks has no tonnage; and the texts.
+// A plan with a mill and a dump, a resource and its limits; its zone file, in which one block has no tonnage; and the files of its
+// instance.
 const LIMITED_PLAN: &[u8] =
     b"name,one\ngrid,0,0,0,10,10,10\nmill,mill,900,600,1500\ndump,dump,200\nperiods,2\nrate,0.1\nresource,plant,mill\nlimit,plant,1,I,0,900\nlimit,plant,0,L,500.5\n";
 
@@ -191,7 +193,7 @@ const LIMITED: [&str; 5] = [
     },
 ];
 
-// Sinks that take so many bytes a put at most.
+// Returns sinks that take at most `step` bytes a put.
 fn short_sinks(alloc: Global, step: usize) -> Sinks<MemSink>
     requires { 1 ≤ step }
 {
@@ -204,7 +206,7 @@ fn short_sinks(alloc: Global, step: usize) -> Sinks<MemSink>
     }
 }
 
-// A feed of the zone file that gives so many bytes a pull at most.
+// Returns a feed of the zone file that gives at most `step` bytes a pull.
 fn cut_feed(alloc: Global, step: usize) -> Result<Vec<MemFeed>, Fail>
     requires { 1 ≤ step }
 {
@@ -212,7 +214,7 @@ fn cut_feed(alloc: Global, step: usize) -> Result<Vec<MemFeed>, Fail>
     Ok(Vec::from_array(alloc, [feed])?)
 }
 
-// What a run on the zone file answers.
+// Returns the result of a run on the zone file.
 fn run_limits<R: Threads + Wait + Sync>(
     rt: &R,
     alloc: Global,
@@ -235,7 +237,7 @@ fn are_limited(sinks: &Sinks<MemSink>) -> bool {
     true
 }
 
-// The texts do not depend on how many bytes a feed gives at once, or a sink takes.
+// The files do not depend on the number of bytes that a feed gives, or a sink takes, at a time.
 #[test]
 fn limits_and_coefficients(rt: HostRuntime) -> Result<(), Fail> {
     for step in [1, 2, 7, 100_000] {

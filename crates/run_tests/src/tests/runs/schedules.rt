@@ -5,7 +5,7 @@ use super::{
 use crate::tests::watch::{Holds, Looking, OPEN, Watch};
 use std::sync::atomic::Ordering;
 
-// How a run goes whose texts nobody looks at.
+// Returns the result of a run, without its files.
 fn watched<R: Threads + Wait + Sync, F: Feed + Send + Drop>(
     rt: &R,
     alloc: Global,
@@ -18,13 +18,13 @@ fn watched<R: Threads + Wait + Sync, F: Feed + Send + Drop>(
     answer(rt, alloc, zones, MILL, feeds, budget, watch, &mut sinks)
 }
 
-// Each of eight, once.
+// The digit 1 for each of eight.
 const EACH_ONCE: u64 = 0x1111_1111;
 
 const EIGHT_ROWS: &str =
     "0,0,0,1,0\n10,0,0,1,0\n20,0,0,1,0\n30,0,0,1,0\n40,0,0,1,0\n50,0,0,1,0\n60,0,0,1,0\n70,0,0,1,0\n";
 
-// What eight rows wait for: that the gate was told of all of them, or that the worths of all were asked for.
+// What eight rows wait for: that the gate was called for all of them, or that the worths of all were requested.
 const EIGHT: [Holds; 2] = [
     Holds {
         row: EACH_ONCE,
@@ -40,8 +40,7 @@ const EIGHT: [Holds; 2] = [
     },
 ];
 
-// Each of eight valuers has a row at the same time, and asks a stored closure for its worth at the same time, once; or the gate is called
-// otherwise.
+// Eight valuers have a row at the same time, and call a stored closure for its worth at the same time, once each.
 #[test]
 fn eight_rows_at_once(rt: HostRuntime) -> Result<(), Fail> {
     for holds in EIGHT {
@@ -74,7 +73,7 @@ fn reader_held_by_a_row(rt: HostRuntime) -> Result<(), Fail> {
     Ok(())
 }
 
-// The gate is told of a reader before it pulls.
+// The gate is called for a reader before its first pull.
 #[test]
 fn gate_before_reading(rt: HostRuntime) -> Result<(), Fail> {
     let watch = Watch::new(rt.alloc(), OPEN)?;

@@ -1,5 +1,5 @@
 use Rattle.std.proofs.Common.{◌≡◌}
-use Rattle.zone_csv.specs.ZoneReaderView.{blocks_left}
+use Rattle.zone_csv.specs.ZoneReaderView.{blocks_remaining}
 use Rattle.zone_csv.specs.Zone.{blocks_of, fault_of}
 use Rattle.run_threads.specs.inner.Sending.{IsSending}
 use Rattle.run_threads.proofs.file_reading.put_blocks.Given as goal
@@ -11,4 +11,4 @@ invariant-loop-reader g l =
     × IsSending l.file (blocks_of l.plan.grid l.file l.fn.text.items) (fault_of l.plan.grid l.file l.fn.text.items) l.put_end.sent l.reader
 
 abbrev pub decreases-loop-reader : goal.decreases-loop-reader
-decreases-loop-reader g l = blocks_left l.reader
+decreases-loop-reader g l = blocks_remaining l.reader

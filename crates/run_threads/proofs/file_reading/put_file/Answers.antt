@@ -9,12 +9,12 @@ returns-in_err-text-clause-read g c =
     let p = err_from_is_err_and c.from_residual.result c.from_residual.ensures.1 in
     let reads = c.in_err-text.ensures.reads in
     rw (p.1, p.2)
-    (gives_none g.F.Feed.left g.F.Feed.is_sure g.F.Feed.failures c.args.plan.now.grid c.args.file c.args.feed.now c.slurp.new.feed
+    (gives_none g.F.Feed.state c.args.plan.now.grid c.args.file c.args.feed.now c.slurp.new.feed
     c.in_err-text.field-0.0 _ reads.refused.failed (λ sure is. reads.sure sure (cc is)) reads.refused.long)
 
 pub returns-clause-read : goal.returns-clause-read
 returns-clause-read g c =
     let text = c.in_ok-text.text in
     let short : length text.items ≤ most_bytes = search rules in
-    text_read g.F.Feed.left g.F.Feed.is_sure g.F.Feed.failures c.args.plan.now.grid c.args.file c.args.feed.now text.items
+    text_read g.F.Feed.state c.args.plan.now.grid c.args.file c.args.feed.now text.items
     c.put_blocks.result _ c.in_ok-text.ensures.read.whole short c.put_blocks.ensures.put

@@ -40,6 +40,6 @@ returns-clause-handed g c =
     let handed = c.settle-handed.result in
     let plan = c.args.ready.shared.plan.now in
     let given = map (λ h. h.promise.feed.value) handles in
-    let of_plan = subst (λ p. IsHandedOver g.F.Feed.left g.F.Feed.is_sure g.F.Feed.failures p given takers most handed given) c.of.ensures c.settle-handed.ensures.handed in
-    let own = subst (λ fs. IsHandedOver g.F.Feed.left g.F.Feed.is_sure g.F.Feed.failures plan fs takers most handed fs) fed of_plan in
-    subst (λ fs. IsHandedOver g.F.Feed.left g.F.Feed.is_sure g.F.Feed.failures plan feeds takers most handed fs) (sym (c.of-given.ensures ∙ fed)) own
+    let of_plan = subst (λ p. IsHandedOver g.F.Feed.state p given takers most handed given) c.of.ensures c.settle-handed.ensures.handed in
+    let own = subst (λ fs. IsHandedOver g.F.Feed.state plan fs takers most handed fs) fed of_plan in
+    subst (λ fs. IsHandedOver g.F.Feed.state plan feeds takers most handed fs) (sym (c.of-given.ensures ∙ fed)) own

@@ -1,15 +1,15 @@
 use Rattle.std.proofs.Common.{rules, ◌≡◌, ◌≢◌, ◌+◌, ◌-◌, ◌≤◌, ◌∙◌, length, ap, refl, subst, arith, Err}
 use Rattle.text_lines.specs.inner.Waiting.{GaveAll}
-use Rattle.text_lines.proofs.FedSteps.{fails_behind, held_more, last_told, long_told, none_after, none_yet, read_faulty, refused_text, took_more}
+use Rattle.text_lines.proofs.FedSteps.{fails_after, held_more, last_reported, long_reported, none_after, none_yet, read_invalid, refused_text, took_more}
 use Rattle.text_lines.proofs.GivenFacts.{stands_first, stands_on}
-use Rattle.text_lines.proofs.LineEnds.{front_held}
+use Rattle.text_lines.proofs.LineEnds.{prefix_held}
 use Rattle.text_lines.proofs.fed_lines.read_fed.Goals as goal
 
 pub loop-rest-init : goal.loop-rest-init
 loop-rest-init g c = record {
-  so_far = rw c.new-waiting.ensures (none_yet g.S.Admit.admit_line c.args.state.now (c.args.limit + 1) (g.F.Feed.left c.args.feed.now));
+  so_far = rw c.new-waiting.ensures (none_yet g.S.Admit.admit_line c.args.state.now (c.args.limit + 1) (g.F.Feed.state c.args.feed.now).remaining);
   unended = search rules;
-  stands = stands_first (g.F.Feed.given c.args.feed.now) (g.F.Feed.left c.args.feed.now);
+  stands = stands_first (g.F.Feed.state c.args.feed.now).given (g.F.Feed.state c.args.feed.now).remaining;
   counts = omega arith;
   works = cc;
   sure = λ s. s;
@@ -23,10 +23,10 @@ returns-then-count-eq0-clause-read g c =
     let zero : n ≡ 0 = c.if-count-eq0.true in
     let so = held_more admit c.args.state.now c.loop-rest.state c.loop-rest.waiting c.pull.new.self c.loop-rest.rest (c.loop-rest.rest - n) n
     (c.args.limit + 1) _ _ _ c.loop-rest.invariant.so_far held (omega (arith, c.in_ok-count.ensures.within)) in
-    last_told admit c.args.state.now c.loop-rest.state c.take_last.new.state c.pull.new.self (c.loop-rest.rest - n) c.args.limit _ _ _
+    last_reported admit c.args.state.now c.loop-rest.state c.take_last.new.state c.pull.new.self (c.loop-rest.rest - n) c.args.limit _ _
     c.take_last.result so (omega (arith, zero, c.loop-rest-test.true))
     (omega (arith, zero, c.loop-rest.invariant.counts, c.loop-rest.invariant.so_far.count, c.in_ok-count.ensures.pulls.counts))
-    (none_after _ _ held.bytes held.left (held.count ∙ zero) (c.in_ok-count.ensures.pulls.end zero)) c.take_last.ensures.read
+    (none_after _ _ held.bytes held.remaining (held.count ∙ zero) (c.in_ok-count.ensures.pulls.end zero)) c.take_last.ensures.read
 
 pub loop-rest-preserved : goal.loop-rest-preserved
 loop-rest-preserved g c =
@@ -39,7 +39,7 @@ loop-rest-preserved g c =
       so_far = took_more admit c.args.state.now c.loop-rest.state c.take_ended.new.state c.pull.new.self c.take_ended.new.self
           (c.loop-rest.rest - n) (c.args.limit + 1) _ _ so c.in-Ok.ensures.takes;
       unended = c.in-Ok.ensures.held;
-      stands = stands_on g.F.Feed.given g.F.Feed.left c.args.feed.now c.loop-rest.feed c.pull.new.feed
+      stands = stands_on (g.F.Feed.state c.args.feed.now) (g.F.Feed.state c.loop-rest.feed) (g.F.Feed.state c.pull.new.feed)
           (omega (arith, inv.counts, inv.so_far.count)) c.pull.ensures.pulls.onward
           inv.stands c.pull.ensures.pulls.stands;
       counts = omega (arith, inv.counts, c.in_ok-count.ensures.pulls.counts, c.in_ok-count.ensures.within);
@@ -54,10 +54,9 @@ returns-in-Err-Fault-clause-read g c =
     let so = held_more admit c.args.state.now c.loop-rest.state c.loop-rest.waiting c.pull.new.self c.loop-rest.rest (c.loop-rest.rest - n) n
     (c.args.limit + 1) _ _ _ c.loop-rest.invariant.so_far c.in_ok-count.ensures.held (omega (arith, c.in_ok-count.ensures.within)) in
     let whole : c.loop-rest.rest - n - 1 + 1 ≡ c.loop-rest.rest - n = omega (arith, c.if-rest-eq0.false) in
-    read_faulty admit c.args.state.now c.loop-rest.state c.take_ended.new.state c.pull.new.self (c.loop-rest.rest - n) c.args.limit _ _ _ _ _
-    c.in-Err-Fault.fault so (rw c.in-Err-Fault.field-0-is at c.in-Err-Fault.ensures.takes)
-    (subst (λ most. GaveAll most (g.F.Feed.given c.pass.new.feed - g.F.Feed.given c.pull.new.feed) (g.F.Feed.left c.pull.new.feed)
-    (g.F.Feed.left c.pass.new.feed)) whole c.in_ok-pass-in-Err-Fault.ensures.all)
+    read_invalid admit c.args.state.now c.loop-rest.state c.take_ended.new.state c.pull.new.self (c.loop-rest.rest - n) c.args.limit _
+    (g.F.Feed.state c.pull.new.feed) _ c.in-Err-Fault.fault so (rw c.in-Err-Fault.field-0-is at c.in-Err-Fault.ensures.takes)
+    (subst (λ most. GaveAll most (g.F.Feed.state c.pull.new.feed) (g.F.Feed.state c.pass.new.feed)) whole c.in_ok-pass-in-Err-Fault.ensures.all)
     (omega (
       arith,
       c.loop-rest.invariant.counts,
@@ -67,9 +66,9 @@ returns-in-Err-Fault-clause-read g c =
       c.pass.ensures.reads.onward,
     ))
 
-pub take_ended-requires-clause-front : goal.take_ended-requires-clause-front
-take_ended-requires-clause-front g c =
-    front_held _ _ c.loop-rest.waiting c.pull.new.self _ _ c.loop-rest.invariant.unended c.in_ok-count.ensures.held c.len-before.ensures
+pub take_ended-requires-clause-prefix : goal.take_ended-requires-clause-prefix
+take_ended-requires-clause-prefix g c =
+    prefix_held _ _ c.loop-rest.waiting c.pull.new.self _ _ c.loop-rest.invariant.unended c.in_ok-count.ensures.held c.len-before.ensures
 
 pub returns-then-rest-eq0-clause-reads : goal.returns-then-rest-eq0-clause-reads
 returns-then-rest-eq0-clause-reads g c =
@@ -80,20 +79,20 @@ returns-then-rest-eq0-clause-reads g c =
     let so = held_more g.S.Admit.admit_line c.args.state.now c.loop-rest.state c.loop-rest.waiting c.pull.new.self c.loop-rest.rest
     (c.loop-rest.rest - n) n (c.args.limit + 1) _ _ _ inv.so_far c.in_ok-count.ensures.held (omega (arith, c.in_ok-count.ensures.within)) in
     let whole : length so.text ≡ c.args.limit + 1 = omega (arith, so.count, c.if-rest-eq0.true) in
-    let all : g.F.Feed.given c.pull.new.feed ≡ g.F.Feed.given c.args.feed.now + (c.args.limit + 1) =
+    let all : (g.F.Feed.state c.pull.new.feed).given ≡ (g.F.Feed.state c.args.feed.now).given + (c.args.limit + 1) =
     omega (arith, inv.counts, counts, c.in_ok-count.ensures.within, c.if-rest-eq0.true) in
-    refused_text g.F.Feed.left g.F.Feed.is_sure g.F.Feed.given g.F.Feed.failures c.args.limit c.args.feed.now c.pull.new.feed _ _ refl
+    refused_text c.args.limit (g.F.Feed.state c.args.feed.now) (g.F.Feed.state c.pull.new.feed) _ _ refl
     (record {
       failed = λ e. absurd cc;
       failed_first = λ e. absurd cc;
-      long = λ e. long_told _ _ so.text c.args.limit so.gave (omega (arith, whole));
+      long = λ e. long_reported _ _ so.text c.args.limit so.gave (omega (arith, whole));
       long_counts = λ e. all;
       long_works = λ e. c.in_ok-count.ensures.pulls.works ∙ inv.works;
       memory_works = λ e. absurd cc;
       memory_first = λ e. absurd cc;
     })
     (λ s e. absurd cc) (omega (arith, all)) (omega (arith, all))
-    (stands_on g.F.Feed.given g.F.Feed.left c.args.feed.now c.loop-rest.feed c.pull.new.feed
+    (stands_on (g.F.Feed.state c.args.feed.now) (g.F.Feed.state c.loop-rest.feed) (g.F.Feed.state c.pull.new.feed)
     (omega (arith, inv.counts, inv.so_far.count)) pulls.onward inv.stands pulls.stands)
     (λ s. pulls.stays_sure (inv.sure s))
 
@@ -107,19 +106,19 @@ returns-in_err-pass-in-Err-Fault-clause-reads g c =
     let so = held_more g.S.Admit.admit_line c.args.state.now c.loop-rest.state c.loop-rest.waiting c.pull.new.self c.loop-rest.rest
     (c.loop-rest.rest - n) n (c.args.limit + 1) _ _ _ inv.so_far c.in_ok-count.ensures.held (omega (arith, c.in_ok-count.ensures.within)) in
     let some : c.loop-rest.rest - n ≢ 0 = c.if-rest-eq0.false in
-    let given : g.F.Feed.given c.pull.new.feed ≡ g.F.Feed.given c.args.feed.now + length so.text =
+    let given : (g.F.Feed.state c.pull.new.feed).given ≡ (g.F.Feed.state c.args.feed.now).given + length so.text =
     omega (arith, inv.counts, counts, c.in_ok-count.ensures.within, so.count) in
-    let begun : g.F.Feed.given c.args.feed.now ≤ g.F.Feed.given c.loop-rest.feed = omega (arith, inv.counts, inv.so_far.count) in
+    let begun : (g.F.Feed.state c.args.feed.now).given ≤ (g.F.Feed.state c.loop-rest.feed).given = omega (arith, inv.counts, inv.so_far.count) in
     let was : c.pass.result ≡ Err c.in_err-pass-in-Err-Fault.field-0.0 = search rules in
     let is : c.from_residual-in_err-pass-in-Err-Fault.result ≡ Err c.in_err-pass-in-Err-Fault.field-0.0 = search rules in
-    refused_text g.F.Feed.left g.F.Feed.is_sure g.F.Feed.given g.F.Feed.failures c.args.limit c.args.feed.now c.pass.new.feed _ _ is
-    (fails_behind (g.F.Feed.left c.args.feed.now) (g.F.Feed.left c.pull.new.feed) so.text c.args.limit (c.loop-rest.rest - n - 1)
-    _ _ _ _ _ _ _ so.gave (omega (arith, so.count, some)) given (c.in_ok-count.ensures.pulls.works ∙ inv.works)
+    refused_text c.args.limit (g.F.Feed.state c.args.feed.now) (g.F.Feed.state c.pass.new.feed) _ _ is
+    (fails_after (g.F.Feed.state c.args.feed.now) (g.F.Feed.state c.pull.new.feed) (g.F.Feed.state c.pass.new.feed) so.text c.args.limit
+    (c.loop-rest.rest - n - 1) _ so.gave (omega (arith, so.count, some)) given (c.in_ok-count.ensures.pulls.works ∙ inv.works)
     c.in_err-pass-in-Err-Fault.ensures.reads.refused)
     (λ s e. passes.sure (pulls.stays_sure (inv.sure s)) (was ∙ ap Err e))
     (omega (arith, given, passes.onward)) (omega (arith, given, so.count, some, passes.reads))
-    (stands_on g.F.Feed.given g.F.Feed.left c.args.feed.now c.pull.new.feed c.pass.new.feed (omega (arith, begun, pulls.onward))
+    (stands_on (g.F.Feed.state c.args.feed.now) (g.F.Feed.state c.pull.new.feed) (g.F.Feed.state c.pass.new.feed) (omega (arith, begun, pulls.onward))
     passes.onward
-    (stands_on g.F.Feed.given g.F.Feed.left c.args.feed.now c.loop-rest.feed c.pull.new.feed begun pulls.onward inv.stands pulls.stands)
+    (stands_on (g.F.Feed.state c.args.feed.now) (g.F.Feed.state c.loop-rest.feed) (g.F.Feed.state c.pull.new.feed) begun pulls.onward inv.stands pulls.stands)
     passes.stands)
     (λ s. passes.stays_sure (pulls.stays_sure (inv.sure s)))

@@ -3,7 +3,7 @@ use Rattle.text_lines.specs.Reading.{read_lines}
 use Rattle.text_lines.specs.TextLines.{lines_of, numbered_lines}
 use Rattle.text_lines.proofs.line_by_line.read_on.Given as goal
 
--- the rest of the text leads from the state that was reached to what the whole text states
+-- the remaining lines lead from the state to the contents of the complete text
 abbrev pub invariant-loop-rest : goal.invariant-loop-rest
 invariant-loop-rest g l =
     (read_lines g.S.Admit.admit_line l.state (numbered_lines l.number (lines_of l.rest))

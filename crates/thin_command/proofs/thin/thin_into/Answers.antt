@@ -1,6 +1,7 @@
 use Rattle.std.proofs.Common.{◌≡◌, ◌∙◌, ◌+◌, ◌++◌, [], ◌∷◌, Err, ap, map, refl, string_bytes, subst, sym}
 use Rattle.std.proofs.lemmas.List.{length-map}
 use Rattle.std.proofs.lemmas.Result.{err_from_is_err_and}
+use Rattle.devices.specs.feeds.FeedState.{all_remaining}
 use Rattle.pit_compile.specs.Settings.{IsSettingsFault}
 use Rattle.pit_compile.specs.Starts.{AreStartsOf}
 use Rattle.refusals.specs.declared.refusal.Refusal.TheVariants.{OutOfMemory}
@@ -15,11 +16,11 @@ use Rattle.thin_command.proofs.thin.thin_into.Goals as goal
 pub returns-in_err-instance-clause-refused : goal.returns-in_err-instance-clause-refused
 returns-in_err-instance-clause-refused g c =
     let p = err_from_is_err_and c.from_residual-in_err-instance.result c.from_residual-in_err-instance.ensures.1 in
-    let many = length-map c.in_ok-feeds.feeds.items g.O.Opened.Feed.left in
+    let many = length-map c.in_ok-feeds.feeds.items (λ feed. (g.O.Opened.Feed.state feed).remaining) in
     rw (p.1, p.2) (refused_run c.args.plan.now (map string_bytes c.args.zones.now) (g.O.Opener.opened c.args.files.now)
     (g.O.Opener.opened c.open_all.new.files) c.args.starts.now c.compile_with_starts.new.starts (g.S.Sink.state c.args.sink.now)
-    (g.S.Sink.state c.args.sink.now) g.O.Opened.Feed.left g.O.Opened.Feed.is_sure
-    g.O.Opened.Feed.failures (formulas_of c.args.destinations.now) c.args.settings c.in_ok-feeds.feeds.items c.in_err-instance.field-0.0 _ c.in_ok-feeds.ensures.opened refl
+    (g.S.Sink.state c.args.sink.now) g.O.Opened.Feed.state
+    (formulas_of c.args.destinations.now) c.args.settings c.in_ok-feeds.feeds.items c.in_err-instance.field-0.0 _ c.in_ok-feeds.ensures.opened refl
     (λ kind e. subst (λ n. IsSettingsFault c.args.plan.now n (formulas_of c.args.destinations.now) c.args.settings kind) (sym many)
     ((c.in_err-instance.ensures.compiles.settings kind).0 (ap Err e))) c.in_err-instance.ensures.compiles.refused
     (subst (λ n. AreStartsOf (c.args.settings.valuers + n) c.args.starts.now c.compile_with_starts.new.starts c.in_err-instance.field-0.0)
@@ -28,42 +29,42 @@ returns-in_err-instance-clause-refused g c =
 pub returns-in_err-counts-clause-refused : goal.returns-in_err-counts-clause-refused
 returns-in_err-counts-clause-refused g c =
     let p = err_from_is_err_and c.from_residual-in_err-counts.result c.from_residual-in_err-counts.ensures.1 in
-    let many = length-map c.in_ok-feeds.feeds.items g.O.Opened.Feed.left in
+    let many = length-map c.in_ok-feeds.feeds.items (λ feed. (g.O.Opened.Feed.state feed).remaining) in
     let read = was_read c.args.plan.now (map string_bytes c.args.zones.now) (g.O.Opener.opened c.args.files.now)
     (g.O.Opener.opened c.open_all.new.files) c.args.starts.now c.compile_with_starts.new.starts (g.S.Sink.state c.args.sink.now)
-    (g.S.Sink.state c.write_fewer.new.sink) (map g.O.Opened.Feed.left c.in_ok-feeds.feeds.items) c.args.settings
+    (g.S.Sink.state c.write_fewer.new.sink) (all_remaining g.O.Opened.Feed.state c.in_ok-feeds.feeds.items) c.args.settings
     c.in_ok-instance.field-0
     c.in_ok-feeds.ensures.opened c.in_ok-instance.ensures.compiles.done
     (subst (λ n. AreSpent (c.args.settings.valuers + n) c.compile_with_starts.new.starts) (sym many) c.in_ok-instance.ensures.spends.started) in
     rw (p.1, p.2) (cut_off c.args.plan.now (map string_bytes c.args.zones.now) (g.O.Opener.opened c.args.files.now)
     (g.O.Opener.opened c.open_all.new.files) c.args.starts.now c.compile_with_starts.new.starts (g.S.Sink.state c.args.sink.now)
-    (g.S.Sink.state c.write_fewer.new.sink) g.O.Opened.Feed.left g.O.Opened.Feed.is_sure
-    g.O.Opened.Feed.failures (formulas_of c.args.destinations.now) c.args.settings c.in_ok-instance.field-0.instance
+    (g.S.Sink.state c.write_fewer.new.sink) g.O.Opened.Feed.state
+    (formulas_of c.args.destinations.now) c.args.settings c.in_ok-instance.field-0.instance
     c.in_err-counts.field-0.0 _ refl read c.in_err-counts.ensures.refused)
 
 pub returns-in_err-append_counts-clause-refused : goal.returns-in_err-append_counts-clause-refused
 returns-in_err-append_counts-clause-refused g c =
     let p = err_from_is_err_and c.from_residual-in_err-append_counts.result c.from_residual-in_err-append_counts.ensures.1 in
     let told : c.from_residual-in_err-append_counts.result ≡ Err (Run OutOfMemory) = cc (p.1, p.2) in
-    let many = length-map c.in_ok-feeds.feeds.items g.O.Opened.Feed.left in
+    let many = length-map c.in_ok-feeds.feeds.items (λ feed. (g.O.Opened.Feed.state feed).remaining) in
     let read = was_read c.args.plan.now (map string_bytes c.args.zones.now) (g.O.Opener.opened c.args.files.now)
     (g.O.Opener.opened c.open_all.new.files) c.args.starts.now c.compile_with_starts.new.starts (g.S.Sink.state c.args.sink.now)
-    (g.S.Sink.state c.write_fewer.new.sink) (map g.O.Opened.Feed.left c.in_ok-feeds.feeds.items) c.args.settings
+    (g.S.Sink.state c.write_fewer.new.sink) (all_remaining g.O.Opened.Feed.state c.in_ok-feeds.feeds.items) c.args.settings
     c.in_ok-instance.field-0
     c.in_ok-feeds.ensures.opened c.in_ok-instance.ensures.compiles.done
     (subst (λ n. AreSpent (c.args.settings.valuers + n) c.compile_with_starts.new.starts) (sym many) c.in_ok-instance.ensures.spends.started) in
     rw told (refused_line c.args.plan.now (map string_bytes c.args.zones.now) (g.O.Opener.opened c.args.files.now)
     (g.O.Opener.opened c.open_all.new.files) c.args.starts.now c.compile_with_starts.new.starts (g.S.Sink.state c.args.sink.now)
-    (g.S.Sink.state c.write_fewer.new.sink) g.O.Opened.Feed.left g.O.Opened.Feed.is_sure
-    g.O.Opened.Feed.failures (formulas_of c.args.destinations.now) c.args.settings c.in_ok-instance.field-0.instance
+    (g.S.Sink.state c.write_fewer.new.sink) g.O.Opened.Feed.state
+    (formulas_of c.args.destinations.now) c.args.settings c.in_ok-instance.field-0.instance
     (Run OutOfMemory) read c.in_ok-counts.ensures.written refl)
 
 pub returns-clause-done : goal.returns-clause-done
 returns-clause-done g c =
-    let many = length-map c.in_ok-feeds.feeds.items g.O.Opened.Feed.left in
+    let many = length-map c.in_ok-feeds.feeds.items (λ feed. (g.O.Opened.Feed.state feed).remaining) in
     let read = was_read c.args.plan.now (map string_bytes c.args.zones.now) (g.O.Opener.opened c.args.files.now)
     (g.O.Opener.opened c.open_all.new.files) c.args.starts.now c.compile_with_starts.new.starts (g.S.Sink.state c.args.sink.now)
-    (g.S.Sink.state c.write_fewer.new.sink) (map g.O.Opened.Feed.left c.in_ok-feeds.feeds.items) c.args.settings
+    (g.S.Sink.state c.write_fewer.new.sink) (all_remaining g.O.Opened.Feed.state c.in_ok-feeds.feeds.items) c.args.settings
     c.in_ok-instance.field-0
     c.in_ok-feeds.ensures.opened c.in_ok-instance.ensures.compiles.done
     (subst (λ n. AreSpent (c.args.settings.valuers + n) c.compile_with_starts.new.starts) (sym many) c.in_ok-instance.ensures.spends.started) in (

@@ -1,7 +1,7 @@
 use Rattle.std.proofs.Common.{rules, ◌++◌, [], ◌∷◌, ◌≡◌, drop, length}
 use Rattle.plan_parts.specs.Destinations.{formulas_of}
 use Rattle.valuers.specs.Valuing.{items_by, AreAnswered, OfRow}
-use Rattle.valuers.proofs.Taking.{took_more, front_stays, items_more, all_where_pushed, front_where_pushed, all_stay}
+use Rattle.valuers.proofs.Taking.{took_more, prefix_stays, items_more, all_where_pushed, prefix_where_pushed, all_stay}
 use Rattle.valuers.proofs.valuer.take_all.Goals as goal
 
 pub loop-preserved-then-not-memory : goal.loop-preserved-then-not-memory
@@ -19,7 +19,7 @@ loop-preserved-then-not-memory g c =
       items = λ fine. all_where_pushed (g.K.Keeps.held c.loop.items) (g.K.Keeps.held c.push_item.new.items)
           (items_by (formulas_of c.args.destinations.now) (c.take-message.result ∷ [])) all is c.push_item.result c.push_item.ensures.pushed
           (rw c.is_err-memory.ensures.value at fine);
-      front = front_where_pushed (g.K.Keeps.held c.loop.items) (g.K.Keeps.held c.push_item.new.items)
+      prefix = prefix_where_pushed (g.K.Keeps.held c.loop.items) (g.K.Keeps.held c.push_item.new.items)
           (items_by (formulas_of c.args.destinations.now) (c.take-message.result ∷ [])) all is
           c.push_item.result c.push_item.ensures.pushed c.push_item.ensures.kept;
       width = c.push_item.ensures.width;
@@ -40,8 +40,8 @@ loop-preserved g c =
       taker = rw now was.taker;
       took = rw now (took_more c.args.take_end.took c.loop.take_end.took c.take-message.result was.took);
       items = search rules;
-      front = rw now (front_stays (formulas_of c.args.destinations.now) c.args.take_end.took c.loop.take_end.took
-          c.take-message.result was.took (g.K.Keeps.held c.loop.items) was.front);
+      prefix = rw now (prefix_stays (formulas_of c.args.destinations.now) c.args.take_end.took c.loop.take_end.took
+          c.take-message.result was.took (g.K.Keeps.held c.loop.items) was.prefix);
       width = was.width;
       full = was.full;
       passed = was.passed;

@@ -11,7 +11,7 @@ invariant-loop g l =
       taker : l.take_end.taker ≡ l.fn.take_end.taker;
       took : l.take_end.took ≡ l.fn.take_end.took ++ drop (length l.fn.take_end.took) l.take_end.took;
       items : IsFalse l.memory → g.K.Keeps.held l.items ≡ items_by (formulas_of l.destinations) (drop (length l.fn.take_end.took) l.take_end.took);
-      front : g.K.Keeps.held l.items ≡ take (length (g.K.Keeps.held l.items))
+      prefix : g.K.Keeps.held l.items ≡ take (length (g.K.Keeps.held l.items))
           (items_by (formulas_of l.destinations) (drop (length l.fn.take_end.took) l.take_end.took));
       width : g.K.Keeps.is_for l.items (length l.destinations);
       full : IsTrue l.memory → g.K.Keeps.is_full l.items (length l.destinations);

@@ -5,7 +5,7 @@ use Rattle.zone_csv.specs.Columns.{all_columns}
 use Rattle.zone_csv.specs.Header.{each_place}
 use Rattle.zone_csv.proofs.columns.columns_of.Given as goal
 
--- The columns before this one have their places, and those ahead decide.
+-- The columns before this one have their places, and the remaining columns decide.
 abbrev pub invariant-loop-k : goal.invariant-loop-k
 invariant-loop-k l =
     record {

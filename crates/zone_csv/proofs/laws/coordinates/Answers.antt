@@ -1,7 +1,7 @@
 use Rattle.std.proofs.Common.{ap, sym, subst, ◌∙◌}
 use Rattle.zone_csv.proofs.CentroidFacts.{centroid_in_grid, centroid_index, centroid_on_step, index_is_centroid}
 use Rattle.zone_csv.specs.Cell.{index_at, is_on_step}
-use Rattle.zone_csv.specs.SpelledRow.{IsInGrid}
+use Rattle.zone_csv.specs.EncodedRow.{IsInGrid}
 use Rattle.zone_csv.proofs.laws.coordinates.Goals as goal
 
 pub returns : goal.returns

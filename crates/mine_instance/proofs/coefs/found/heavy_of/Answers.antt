@@ -1,5 +1,5 @@
 use Rattle.std.proofs.Common.{◌++◌, ◌∙◌, ap, sym}
-use Rattle.mine_instance.specs.inner.FoundCoefFields.{heavy_one}
+use Rattle.mine_instance.specs.inner.LazyCoefFields.{heavy_one}
 use Rattle.mine_instance.proofs.BuildFacts.{numbered_next}
 use Rattle.mine_instance.proofs.coefs.found.heavy_of.Goals as goal
 

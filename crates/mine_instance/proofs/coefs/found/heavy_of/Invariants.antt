@@ -1,5 +1,5 @@
 use Rattle.std.proofs.Common.{◌≡◌, take}
-use Rattle.mine_instance.specs.inner.FoundCoefFields.{heavy_of}
+use Rattle.mine_instance.specs.inner.LazyCoefFields.{heavy_of}
 use Rattle.mine_instance.proofs.coefs.found.heavy_of.Given as goal
 
 abbrev pub invariant-loop-id : goal.invariant-loop-id

@@ -6,7 +6,7 @@ use Rattle.minelib_reading.proofs.model.header.number_of_key.Goals as goal
 pub stated_in-requires : goal.stated_in-requires
 stated_in-requires c = subst IsFineField (sym c.row.ensures.field) (fine_field c.args.key)
 
--- the number is that of the text
+-- the number is the text's
 pub returns-clause-below : goal.returns-clause-below
 returns-clause-below c =
     number_holds c.args.problem c.args.blocks c.args.key c.args.value.now _ _ _ _ (λ n. n < number_limit c.args.key) c.row.ensures.field

@@ -4,7 +4,7 @@ use Rattle.text_lines.specs.StatedFields.{decimal_in}
 use Rattle.text_lines.specs.TextLines.{fields_of}
 use Rattle.minelib_reading.proofs.model.items.read_decimals.Given as goal
 
--- the rest of the line adds to the decimals that were read, of which there are no more than asked for
+-- the remainder of the line adds to the decimals that were read, which are at most `count`
 abbrev pub invariant-loop-rest : goal.invariant-loop-rest
 invariant-loop-rest l =
     (all_by decimal_in l.row.items (fields_of l.rest) ≡ all_by decimal_in [] (fields_of l.line))

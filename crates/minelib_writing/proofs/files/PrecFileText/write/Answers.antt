@@ -3,7 +3,7 @@ use Rattle.std.proofs.lemmas.List.{get_or_default}
 use Rattle.mine_instance.specs.Instance.{Instance}
 use Rattle.minelib_writing.proofs.files.PrecFileText.write.Goals as goal
 
--- there are texts of all blocks, and predecessors are blocks
+-- the texts include all blocks, and predecessors are blocks
 pub write_preds-requires-clause-preds : goal.write_preds-requires-clause-preds
 write_preds-requires-clause-preds g c k d within j e inside =
     let i = c.args.self.now.instance.now in

@@ -6,7 +6,7 @@ use Rattle.std.specs.List.{flat_map}
 use Rattle.mine_instance.specs.coefs.Groups.{pairs_of}
 use Rattle.mine_instance.specs.coefs.CoveredPairs.{coef_of}
 use Rattle.minelib_writing.specs.inner.CoefParts.{coef_text}
-use Rattle.minelib_writing.specs.inner.LineIn.{line_in}
+use Rattle.pit_units.specs.Line.{line_in}
 use Rattle.minelib_writing.proofs.CoefFacts.{coef_text_is, next_line, of_pair}
 use Rattle.minelib_writing.proofs.lines.coefs.append_all.Goals as goal
 
@@ -25,13 +25,13 @@ loop-d-preserved c =
     let block = c.of-block.result in
     let digits : block ≡ decimal b = c.of-block.ensures ∙ ap decimal c.from.ensures in
     let end = c.loop-d.invariant.end ∙ c.requires.tonnes in
-    let line : block ++ 32 ∷ (decimal pair.0 ++ 32 ∷ (decimal pair.1 ++ line_in c.loop-d.room c.args.end)) ≡ coef_text (coef_of b v pair) =
+    let line : block ++ 32 ∷ (decimal pair.0 ++ 32 ∷ (decimal pair.1 ++ line_in c.loop-d.scratch c.args.end)) ≡ coef_text (coef_of b v pair) =
     (λ j. digits j ++ 32 ∷ (decimal pair.0 ++ 32 ∷ (decimal pair.1 ++ end j)))
     ∙ sym (coef_text_is (coef_of b v pair)) in
     record {
       end = c.in_ok-append_coef.ensures.end ∙ c.loop-d.invariant.end;
       text = next_line (λ pair. coef_text (coef_of b v pair)) c.args.out.now.items c.loop-d.out.items c.append_coef.new.out.items
-          (block ++ 32 ∷ (decimal pair.0 ++ 32 ∷ (decimal pair.1 ++ line_in c.loop-d.room c.args.end))) pairs i pair c.loop-d-test.true
+          (block ++ 32 ∷ (decimal pair.0 ++ 32 ∷ (decimal pair.1 ++ line_in c.loop-d.scratch c.args.end))) pairs i pair c.loop-d-test.true
           (get_or_default pairs i (0, 0) pair c.loop-d-test.true) c.loop-d.invariant.text c.in_ok-append_coef.ensures.text line;
     }
 

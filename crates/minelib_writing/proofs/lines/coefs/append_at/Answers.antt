@@ -6,7 +6,7 @@ use Rattle.std.specs.List.{flat_map}
 use Rattle.mine_instance.specs.coefs.Groups.{pairs_of}
 use Rattle.mine_instance.specs.coefs.CoveredPairs.{coef_of}
 use Rattle.minelib_writing.specs.inner.CoefParts.{cpit_coef_text}
-use Rattle.minelib_writing.specs.inner.LineIn.{line_in}
+use Rattle.pit_units.specs.Line.{line_in}
 use Rattle.minelib_writing.proofs.CoefFacts.{cpit_coef_text_is, differ, next_line, of_pair}
 use Rattle.minelib_writing.proofs.lines.coefs.append_at.Goals as goal
 use Rattle.minelib_writing.proofs.lines.coefs.append_at.Goals.{then-from-destination+in_ok-append_chosen, else-from-destination}
@@ -26,7 +26,7 @@ loop-d-preserved c =
     let at = c.args.destination in
     let digits : c.of-block.result ≡ decimal b = c.of-block.ensures ∙ ap decimal c.from.ensures in
     let end = c.loop-d.invariant.end ∙ c.requires.tonnes in
-    let written = c.of-block.result ++ 32 ∷ (decimal pair.1 ++ line_in c.loop-d.room c.args.end) in
+    let written = c.of-block.result ++ 32 ∷ (decimal pair.1 ++ line_in c.loop-d.scratch c.args.end) in
     let part : ℕ × ℕ → List ℕ = λ pair. if pair.0 == at then cpit_coef_text (coef_of b v pair) else [] in
     let stands = get_or_default pairs i (0, 0) pair c.loop-d-test.true in
     elim c.if-from-destination.branch [
@@ -36,7 +36,7 @@ loop-d-preserved c =
           (λ j. digits j ++ 32 ∷ (decimal pair.1 ++ end j))
           ∙ sym (ap (λ test. if test then cpit_coef_text (coef_of b v pair) else []) yes ∙ cpit_coef_text_is (coef_of b v pair)) in
           record {
-            end = (λ j. line_in (w.room-is j) c.args.end) ∙ w.in_ok-append_chosen.ensures.end ∙ c.loop-d.invariant.end;
+            end = (λ j. line_in (w.scratch-is j) c.args.end) ∙ w.in_ok-append_chosen.ensures.end ∙ c.loop-d.invariant.end;
             text =
                 (λ j. (w.out-is j).items)
                 ∙ next_line part c.args.out.now.items c.loop-d.out.items w.append_chosen.new.out.items written pairs i pair
@@ -47,7 +47,7 @@ loop-d-preserved c =
           let no : (pair.0 == at) ≡ false = differ pair.0 at (λ e. w.if-from-destination.false (c.from-in-loop-d.ensures ∙ e)) in
           let none : [] ≡ part pair = sym (ap (λ test. if test then cpit_coef_text (coef_of b v pair) else []) no) in
           record {
-            end = (λ j. line_in (w.room-is j) c.args.end) ∙ c.loop-d.invariant.end;
+            end = (λ j. line_in (w.scratch-is j) c.args.end) ∙ c.loop-d.invariant.end;
             text =
                 (λ j. (w.out-is j).items)
                 ∙ next_line part c.args.out.now.items c.loop-d.out.items c.loop-d.out.items [] pairs i pair

@@ -1,5 +1,5 @@
 use Rattle.std.proofs.Common.{◌*◌, rules}
-use Rattle.minelib_writing.proofs.numbers.Fractions.{whole_millionths}
+use Rattle.pit_units.proofs.Text.{whole_millionths}
 use Rattle.minelib_writing.proofs.lines.items.write_ore.Goals as goal
 
 pub returns-clause-text : goal.returns-clause-text

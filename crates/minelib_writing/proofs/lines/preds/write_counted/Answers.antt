@@ -9,14 +9,14 @@ use Rattle.minelib_writing.proofs.LineFacts.{length-lines_from}
 use Rattle.minelib_writing.proofs.SectionsWritten.{more_cut, more_then}
 use Rattle.minelib_writing.proofs.lines.preds.write_counted.Goals as goal
 
--- the lines so far were written on, the rest was cut short, and so are they all
+-- the lines so far were written, the remainder was cut off, and so are all lines
 pub returns-in_err-write_line-clause-writes : goal.returns-in_err-write_line-clause-writes
 returns-in_err-write_line-clause-writes g c =
     let lines = lines_from prec_line 0 (g.M.MadeLists.lists c.args.preds.now) in
     let cut = more_cut lines _ 1 c.loop-id.invariant.written.appended (rw c.loop-id.invariant.kept at c.in_err-write_line.ensures.writes) in
     search rules
 
--- those before the block, and then its own
+-- the lines before the block, and then its own
 pub loop-id-preserved : goal.loop-id-preserved
 loop-id-preserved g c =
     let lists = g.M.MadeLists.lists c.args.preds.now in

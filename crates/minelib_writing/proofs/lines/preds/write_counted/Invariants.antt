@@ -5,7 +5,7 @@ use Rattle.minelib_writing.specs.Written.{prec_line}
 use Rattle.devices.specs.sinks.Writes.{IsWrittenOn}
 use Rattle.minelib_writing.proofs.lines.preds.write_counted.Given as goal
 
--- The lists stay, the lines so far are written on, and their predecessors are counted.
+-- The lists are unchanged, the lines so far are written, and their predecessors are counted.
 abbrev pub invariant-loop-id : goal.invariant-loop-id
 invariant-loop-id g l = record {
   kept : g.M.MadeLists.lists l.preds ≡ g.M.MadeLists.lists l.initial.preds;

@@ -4,7 +4,7 @@ use Rattle.minelib_writing.specs.Written.{prec_line}
 use Rattle.minelib_writing.proofs.SectionsWritten.{held_cut}
 use Rattle.minelib_writing.proofs.lines.preds.write_line.Goals as goal
 
--- the line that was appended was cut short
+-- the appended line was cut off
 pub returns-in_err-flush_full-clause-writes : goal.returns-in_err-flush_full-clause-writes
 returns-in_err-flush_full-clause-writes g c =
     let lines = lines_from prec_line 0 (g.M.MadeLists.lists c.args.preds.now) in

@@ -2,18 +2,18 @@ use Rattle.std.proofs.Common.{◌≡◌, ◌+◌, ◌*◌, ◌≤◌, ◌++◌, 
 use Rattle.std.specs.List.{flat_map}
 use Rattle.pit_units.specs.Decimal.{shortest}
 use Rattle.pit_units.specs.DecimalRange.{IsInDecimalRange}
-use Rattle.mine_instance.specs.OfModel.{in_hundreds}
-use Rattle.minelib_writing.specs.inner.LineIn.{line_in}
+use Rattle.pit_units.specs.Line.{line_in}
+use Rattle.mine_instance.specs.BlockValues.{values_in}
 use Rattle.minelib_writing.proofs.lines.values.write_values.Given as goal
 
 -- The last values are written, so far.
-abbrev pub invariant-loop-left : goal.invariant-loop-left
-invariant-loop-left l = record {
-  within : l.left ≤ length l.values;
-  text : line_in l.room l.at ≡ flat_map (λ cents. 32 ∷ shortest (in_hundreds cents)) (drop l.left l.values) ++ line_in l.initial.room l.end;
-  start : (207 + 23 * l.left ≤ l.at + 23 * length l.values) × (l.at ≤ 207);
-  kept : All (λ cents. IsInDecimalRange (in_hundreds cents)) (drop l.left l.values);
+abbrev pub invariant-loop-remaining : goal.invariant-loop-remaining
+invariant-loop-remaining l = record {
+  within : l.remaining ≤ length (values_in l.values);
+  text : line_in l.scratch l.at ≡ flat_map (λ value. 32 ∷ shortest value) (drop l.remaining (values_in l.values)) ++ line_in l.initial.scratch l.end;
+  start : (l.end + 29 * l.remaining ≤ l.at + 29 * length (values_in l.values)) × (l.at ≤ l.end);
+  kept : All IsInDecimalRange (drop l.remaining (values_in l.values));
 }
 
-abbrev pub decreases-loop-left : goal.decreases-loop-left
-decreases-loop-left l = l.left
+abbrev pub decreases-loop-remaining : goal.decreases-loop-remaining
+decreases-loop-remaining l = l.remaining

@@ -1,8 +1,8 @@
 use Rattle.std.proofs.Common.{◌≡◌, ◌<◌, sym, ◌∙◌, ap, length, unwrap_or, false}
 use Rattle.std.specs.List.{list_any}
-use Rattle.plan_parts.specs.PlanKept.{IsBound}
+use Rattle.plan_parts.specs.PlanInvariant.{IsBound}
 use Rattle.pit_model.specs.Stated.{Stated, is_same_place}
-use Rattle.pit_model.proofs.PlanKept.{limit_kept}
+use Rattle.pit_model.proofs.PlanInvariant.{limit_in_range}
 use Rattle.pit_model.proofs.draft.Draft.add_limit.Goals as goal
 
 pub invariant_of-self-2 : goal.invariant_of-self-2
@@ -19,4 +19,4 @@ invariant_of-self-2 c =
     let none : list_any (λ m. is_same_place c.args.limit m) old ≡ false =
     ap (λ xs. list_any (λ m. is_same_place c.args.limit m) xs) (sym c.as_slice.ensures.value) ∙ sym c.is_limited.ensures
     ∙ c.if-is_limited.false in
-    rw now (limit_kept _ c.args.limit kept resource period bound none)
+    rw now (limit_in_range _ c.args.limit kept resource period bound none)

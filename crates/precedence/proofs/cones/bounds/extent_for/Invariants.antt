@@ -3,7 +3,7 @@ use Rattle.plan_parts.specs.declared.cone.Cone.{Cone}
 use Rattle.precedence.specs.declared.cones.cone_rows.Extent.{Extent}
 use Rattle.precedence.proofs.cones.bounds.extent_for.Given as goal
 
--- as far as each of the zones so far needs
+-- covers the extent of each of the zones so far
 abbrev pub invariant-loop-zone : goal.invariant-loop-zone
 invariant-loop-zone l = record {
   few_rows : l.rows < 10000;

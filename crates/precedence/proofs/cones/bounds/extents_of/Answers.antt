@@ -7,14 +7,14 @@ use Rattle.precedence.specs.inner.ZoneTables.{Holds, IsWider}
 use Rattle.precedence.specs.declared.cones.cone_rows.Extent.{Extent}
 use Rattle.precedence.proofs.cones.bounds.extents_of.Goals as goal
 
--- what an extent reaches, a wider one reaches
+-- a wider extent reaches at least as far
 reaches : (extent other : Extent) (low high : Block) → IsWider extent other → IsWithin other low high → IsWithin extent low high
 reaches extent other low high wide near = record {
   rows = omega (arith, wide.rows, near.rows);
   benches = omega (arith, wide.benches, near.benches);
 }
 
--- where one extent is replaced by a wider one, each still reaches as far
+-- if one extent is replaced by a wider one, each still reaches as far
 still_reaches : (extents : List Extent) (zone place : ℕ) (more e : Extent) (low high : Block) → zone < length extents
     → IsWider more (get_or extents zone more) → IsWithin (get_or extents place e) low high
     → IsWithin (get_or (set extents zone more) place e) low high

@@ -5,7 +5,7 @@ use Rattle.precedence.specs.inner.Rows.{IsWithin}
 use Rattle.precedence.specs.inner.ZoneTables.{Holds}
 use Rattle.precedence.proofs.cones.bounds.extents_of.Given as goal
 
--- The blocks from i on are held, and the extents reach from each to those behind it.
+-- The bounds include the blocks from i on, and the extents reach from each of them to the blocks after it.
 abbrev pub invariant-loop-i : goal.invariant-loop-i
 invariant-loop-i l = record {
   inside : l.i ≤ length l.blocks;

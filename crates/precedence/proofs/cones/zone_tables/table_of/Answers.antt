@@ -12,7 +12,7 @@ pub invariant_of-result-clause-all_past : goal.invariant_of-result-clause-all_pa
 invariant_of-result-clause-all_past c = c.in_ok-past.ensures ∙ ap pasts c.as_slice.ensures.value
 
 pub invariant_of-result-clause-no_wider : goal.invariant_of-result-clause-no_wider
-invariant_of-result-clause-no_wider c = rw c.as_slice-2.ensures.value at c.widths_of-widths.ensures
+invariant_of-result-clause-no_wider c = rw c.as_slice-3.ensures.value at c.widths_of-widths.ensures
 
 pub returns-clause-told : goal.returns-clause-told
 returns-clause-told c =

@@ -2,7 +2,7 @@ use Rattle.std.proofs.Common.{◌≡◌, ℕ, ◌<◌, ◌≤◌, length, get_or
 use Rattle.precedence.specs.inner.Alike.{AreAlikeFrom}
 use Rattle.precedence.proofs.lists.alike.alike_of.Given as goal
 
--- The blocks from id on have their numbers, and that of the first is `behind`.
+-- The blocks from `id` on have their numbers, and `behind` is the first one's number.
 abbrev pub invariant-loop-id : goal.invariant-loop-id
 invariant-loop-id l = record {
   inside : l.id ≤ length l.codes;

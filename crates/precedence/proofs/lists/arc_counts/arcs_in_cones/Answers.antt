@@ -23,7 +23,7 @@ pub arcs_in_rows-arcs-requires-clause-in_order : goal.arcs_in_rows-arcs-requires
 arcs_in_rows-arcs-requires-clause-in_order c =
     rw c.as_slice-rows.ensures.value (10 ^ 15, c.index.result.now.in_order)
 
--- how the tables before one and that one are counted
+-- the arcs of the tables before one, and of that table
 module _ (tables : List ConeTable) (of_zone codes zones : List ℕ) (number : ℕ) (own : ConeTable) (rows : List Row)
     (within : number < length tables) (is : own ≡ get_or tables number own) (rows_are : rows ≡ own.rows.items) where
   one_more : arcs_before (in_cone tables of_zone codes) of_zone (number + 1) zones codes

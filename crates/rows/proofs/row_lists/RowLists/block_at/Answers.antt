@@ -8,6 +8,6 @@ use Rattle.rows.proofs.row_lists.RowLists.block_at.Goals as goal
 
 pub returns : goal.returns
 returns c =
-    let row = found_there (row_on (items_in c.self.inside.lists.items)) c.self.inside.spots.items c.args.self.now c.args.position c.index-spot.result.now
-    c.self.invariant c.self.view_is c.requires c.index-spot.ensures in
+    let row = found_there (row_on (items_in c.self.inside.lists.items)) c.self.inside.item_refs.items c.args.self.now c.args.position c.index-item_ref.result.now
+    c.self.invariant c.self.view_is c.requires c.index-item_ref.ensures in
     (rw c.deref.ensures.value at c.block_on.ensures) ∙ ap (option_map (λ (v : Valued). v.block)) (sym row)

@@ -6,10 +6,10 @@ use Rattle.rows.proofs.row_lists.RowLists.into_worths.Goals as goal
 
 pub new-requires : goal.new-requires
 new-requires c =
-    own-all (items_in c.self.inside.lists.items) c.in_ok-worths_of.field-0.items c.in_ok-worths_of.ensures c.self.inside.spots.items c.self.invariant
+    own-all (items_in c.self.inside.lists.items) c.in_ok-worths_of.field-0.items c.in_ok-worths_of.ensures c.self.inside.item_refs.items c.self.invariant
 
 pub returns : goal.returns
 returns c =
     c.new.ensures
-    ∙ same-worths (items_in c.self.inside.lists.items) c.in_ok-worths_of.field-0.items c.in_ok-worths_of.ensures c.self.inside.spots.items c.self.invariant
+    ∙ same-worths (items_in c.self.inside.lists.items) c.in_ok-worths_of.field-0.items c.in_ok-worths_of.ensures c.self.inside.item_refs.items c.self.invariant
     ∙ ap (λ (rows : List Valued). map (λ (row : Valued). row.worths) rows) c.self.view_is

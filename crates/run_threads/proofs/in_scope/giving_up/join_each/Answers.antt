@@ -6,19 +6,19 @@ use Rattle.run_threads.proofs.in_scope.giving_up.join_each.Goals as goal
 pub join-requires-clause-lane : goal.join-requires-clause-lane
 join-requires-clause-lane g c =
     let all = into_iter_items c.loop-handle.handle-iterator in
-    let behind = into_iter_items c.next.new.self in
-    let rest : all ≡ c.in-Some.handle ∷ behind = search rules in
-    All-head (λ h. g.P.RunPromise.lane h.promise ≡ g.P.Behind.OfLane.lane_of c.args.behind.now) c.in-Some.handle behind
-    (All-same (λ h. g.P.RunPromise.lane h.promise ≡ g.P.Behind.OfLane.lane_of c.args.behind.now) (c.in-Some.handle ∷ behind) all (sym rest)
+    let following = into_iter_items c.next.new.self in
+    let rest : all ≡ c.in-Some.handle ∷ following = search rules in
+    All-head (λ h. g.P.RunPromise.lane h.promise ≡ g.P.After.OfLane.lane_of c.args.following.now) c.in-Some.handle following
+    (All-same (λ h. g.P.RunPromise.lane h.promise ≡ g.P.After.OfLane.lane_of c.args.following.now) (c.in-Some.handle ∷ following) all (sym rest)
     c.loop-handle.invariant.lane)
 
 pub loop-handle-preserved : goal.loop-handle-preserved
 loop-handle-preserved g c =
     let all = into_iter_items c.loop-handle.handle-iterator in
-    let behind = into_iter_items c.next.new.self in
-    let rest : all ≡ c.in-Some.handle ∷ behind = search rules in
+    let following = into_iter_items c.next.new.self in
+    let rest : all ≡ c.in-Some.handle ∷ following = search rules in
     record {
       counted = search rules;
-      lane = All-rest (λ h. g.P.RunPromise.lane h.promise ≡ g.P.Behind.OfLane.lane_of c.args.behind.now) c.in-Some.handle behind all rest
+      lane = All-rest (λ h. g.P.RunPromise.lane h.promise ≡ g.P.After.OfLane.lane_of c.args.following.now) c.in-Some.handle following all rest
           c.loop-handle.invariant.lane;
     }

@@ -7,5 +7,5 @@ abbrev pub invariant-loop-handle : goal.invariant-loop-handle
 invariant-loop-handle g l =
     record {
       counted : after_joins (into_iter_len l.handle-iterator) l.starter ≡ after_joins (vec_len l.fn.handles) l.fn.starter;
-      lane : All (λ h. g.P.RunPromise.lane h.promise ≡ g.P.Behind.OfLane.lane_of l.behind) (into_iter_items l.handle-iterator);
+      lane : All (λ h. g.P.RunPromise.lane h.promise ≡ g.P.After.OfLane.lane_of l.following) (into_iter_items l.handle-iterator);
     }

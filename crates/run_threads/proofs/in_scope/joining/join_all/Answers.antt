@@ -8,10 +8,10 @@ use Rattle.run_threads.proofs.in_scope.joining.join_all.Goals as goal
 pub join-requires-clause-lane : goal.join-requires-clause-lane
 join-requires-clause-lane g c =
     let all = into_iter_items c.loop-handle.handle-iterator in
-    let behind = into_iter_items c.next.new.self in
-    let rest : all ≡ c.in-Some.handle ∷ behind = search rules in
-    All-head (λ h. g.P.RunPromise.lane h.promise ≡ g.P.Behind.OfLane.lane_of c.args.behind.now) c.in-Some.handle behind
-    (All-same (λ h. g.P.RunPromise.lane h.promise ≡ g.P.Behind.OfLane.lane_of c.args.behind.now) (c.in-Some.handle ∷ behind) all (sym rest)
+    let following = into_iter_items c.next.new.self in
+    let rest : all ≡ c.in-Some.handle ∷ following = search rules in
+    All-head (λ h. g.P.RunPromise.lane h.promise ≡ g.P.After.OfLane.lane_of c.args.following.now) c.in-Some.handle following
+    (All-same (λ h. g.P.RunPromise.lane h.promise ≡ g.P.After.OfLane.lane_of c.args.following.now) (c.in-Some.handle ∷ following) all (sym rest)
     c.loop-handle.invariant.lane)
 
 pub loop-handle-preserved : goal.loop-handle-preserved
@@ -22,16 +22,16 @@ loop-handle-preserved g c =
     record {
       kept = rw grown (partly_more (λ h r. g.P.Promise.kept_by h.promise r) c.args.handles.items c.loop-handle.results.items
           c.in-Some.handle (into_iter_items c.next.new.self) c.join.result (rw rest at was.kept) c.join.ensures.kept);
-      left = search rules;
+      remaining = search rules;
       count = search rules;
       room = search rules;
-      lane = All-rest (λ h. g.P.RunPromise.lane h.promise ≡ g.P.Behind.OfLane.lane_of c.args.behind.now) c.in-Some.handle (into_iter_items c.next.new.self) (into_iter_items c.loop-handle.handle-iterator) rest was.lane;
+      lane = All-rest (λ h. g.P.RunPromise.lane h.promise ≡ g.P.After.OfLane.lane_of c.args.following.now) c.in-Some.handle (into_iter_items c.next.new.self) (into_iter_items c.loop-handle.handle-iterator) rest was.lane;
       counted = search rules;
     }
 
 pub returns-clause-kept : goal.returns-clause-kept
 returns-clause-kept g c =
     let none : into_iter_len c.loop-handle.handle-iterator ≡ 0 = search rules in
-    let over = nil_from_length (into_iter_items c.loop-handle.handle-iterator) (sym c.loop-handle.invariant.left ∙ none) in
+    let over = nil_from_length (into_iter_items c.loop-handle.handle-iterator) (sym c.loop-handle.invariant.remaining ∙ none) in
     partly_all (λ h r. g.P.Promise.kept_by h.promise r) c.args.handles.items c.loop-handle.results.items
     (rw over at c.loop-handle.invariant.kept)

@@ -11,7 +11,7 @@ invariant-loop-value l =
       items : l.items.items ++ map (λ v. v.items) (into_iter_items l.value-iterator) ≡ map (λ v. v.items) l.fn.values.items;
       memory : (l.refused || list_any (λ v. v.memory) (into_iter_items l.value-iterator)) ≡ list_any (λ v. v.memory) l.fn.values.items;
       count : vec_len l.takers + into_iter_len l.value-iterator ≡ vec_len l.fn.values;
-      handed_on : vec_len l.items ≡ vec_len l.takers;
+      passed_on : vec_len l.items ≡ vec_len l.takers;
       room : vec_len l.fn.values ≤ vec_capacity l.takers;
       room_for_items : vec_len l.fn.values ≤ vec_capacity l.items;
     }

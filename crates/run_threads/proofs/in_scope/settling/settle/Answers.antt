@@ -24,7 +24,7 @@ join_all-values-requires-clause-lane g c =
 pub stop-stopped-requires : goal.stop-stopped-requires
 stop-stopped-requires g c =
     record {
-      puts = rw c.split_reads-ended.ensures.ended (puts_of g.F.Feed.left g.F.Feed.is_sure g.F.Feed.failures
+      puts = rw c.split_reads-ended.ensures.ended (puts_of g.F.Feed.state
           (λ h. h.promise.feed.value) (λ h. h.promise.plan.value) (λ h. h.promise.end.value) c.args.running.plan.value c.args.running.closer.lane c.args.running.closer.files 0 c.args.running.closer.files (omega arith) c.args.running.readers.items c.join_all-reads.result.items
           c.join_all-reads.ensures.kept c.args.running.ends);
     }
@@ -56,7 +56,7 @@ returns-clause-handed g c =
         c.stop-stopped.ensures.sent,
         c.split_reads-ended.ensures.ended,
       )
-          (read_of g.F.Feed.left g.F.Feed.is_sure g.F.Feed.failures (λ h. h.promise.feed.value) (λ h. h.promise.plan.value)
+          (read_of g.F.Feed.state (λ h. h.promise.feed.value) (λ h. h.promise.plan.value)
           (λ h. h.promise.end.value) plan lane c.args.running.closer.files 0 c.args.running.closer.files c.args.running.readers.items c.join_all-reads.result.items
           c.join_all-reads.ensures.kept c.args.running.read_plans c.args.running.ends);
       valued = λ fine.

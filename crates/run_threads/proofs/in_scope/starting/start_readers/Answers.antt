@@ -23,13 +23,13 @@ loop-end-preserved g c =
       plans = rw grown (All-push (λ h. h.promise.plan.value ≡ c.args.shared.now.plan.now) c.loop-end.handles.items
           c.in-Some-start_reader.handle was.plans kept.1);
       count = search rules;
-      left = search rules;
+      remaining = search rules;
       fed = search rules;
       room = search rules;
       unsent = subst (λ n. AreUnsentFrom n (into_iter_items c.next.new.self)) more
           (unsent_rest (vec_len c.loop-end.handles) c.in-Some.end (into_iter_items c.loop-end.end-iterator)
           (into_iter_items c.next.new.self) ends was.unsent).2;
-      behind = search rules;
+      following = search rules;
       counted = search rules;
     }
 
@@ -49,7 +49,7 @@ pub returns-clause-started : goal.returns-clause-started
 returns-clause-started g c =
     let ends = map (λ h. h.promise.end.value) c.loop-end.handles.items in
     let none : into_iter_len c.loop-end.end-iterator ≡ 0 = search rules in
-    let over = nil_from_length (into_iter_items c.loop-end.end-iterator) (sym c.loop-end.invariant.behind ∙ none) in
+    let over = nil_from_length (into_iter_items c.loop-end.end-iterator) (sym c.loop-end.invariant.following ∙ none) in
     record {
       ends = λ _. sym (append-nil ends) ∙ (rw over at c.loop-end.invariant.ends);
       lanes = λ lane same. of_given (λ (e : PutEndView). e.lane ≡ lane) (λ h. h.promise.end.value) c.loop-end.handles.items

@@ -12,10 +12,10 @@ invariant-loop-end g l =
       feeds : map (λ h. h.promise.feed.value) l.handles.items ++ into_iter_items l.rest ≡ l.fn.feeds.items;
       plans : All (λ h. h.promise.plan.value ≡ l.shared.plan.now) l.handles.items;
       count : l.file ≡ vec_len l.handles;
-      left : vec_len l.handles + into_iter_len l.end-iterator ≡ vec_len l.fn.ends;
+      remaining : vec_len l.handles + into_iter_len l.end-iterator ≡ vec_len l.fn.ends;
       fed : into_iter_len l.rest ≡ into_iter_len l.end-iterator;
       room : vec_len l.fn.ends ≤ vec_capacity l.handles;
       unsent : AreUnsentFrom (vec_len l.handles) (into_iter_items l.end-iterator);
-      behind : into_iter_len l.end-iterator ≡ length (into_iter_items l.end-iterator);
+      following : into_iter_len l.end-iterator ≡ length (into_iter_items l.end-iterator);
       counted : l.starter ≡ after_readers (vec_len l.handles) false l.fn.starter;
     }

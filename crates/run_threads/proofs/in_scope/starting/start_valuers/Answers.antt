@@ -32,7 +32,7 @@ loop-take-preserved g c =
       count = search rules;
       rest = search rules;
       room = search rules;
-      behind = search rules;
+      following = search rules;
       counted = search rules;
     }
 
@@ -40,7 +40,7 @@ pub returns-clause-started : goal.returns-clause-started
 returns-clause-started g c =
     let ends = map (λ h. h.promise.end.value) c.loop-take.handles.items in
     let none : into_iter_len c.loop-take.take-iterator ≡ 0 = search rules in
-    let over = nil_from_length (into_iter_items c.loop-take.take-iterator) (sym c.loop-take.invariant.behind ∙ none) in
+    let over = nil_from_length (into_iter_items c.loop-take.take-iterator) (sym c.loop-take.invariant.following ∙ none) in
     record {
       ends = λ _. sym (append-nil ends) ∙ (rw over at c.loop-take.invariant.ends);
       lanes = λ lane same. of_given (λ (e : TakeEndView). e.lane ≡ lane) (λ h. h.promise.end.value) c.loop-take.handles.items

@@ -12,6 +12,6 @@ invariant-loop-take g l =
       count : l.valuer ≡ vec_len l.handles;
       rest : vec_len l.handles + into_iter_len l.take-iterator ≡ vec_len l.fn.takes;
       room : vec_len l.fn.takes ≤ vec_capacity l.handles;
-      behind : into_iter_len l.take-iterator ≡ length (into_iter_items l.take-iterator);
+      following : into_iter_len l.take-iterator ≡ length (into_iter_items l.take-iterator);
       counted : l.starter ≡ after_starts (vec_len l.handles) false l.fn.starter;
     }

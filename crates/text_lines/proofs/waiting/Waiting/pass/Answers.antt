@@ -12,7 +12,7 @@ loop-rest-preserved g c =
       within = omega (arith, inv.within);
       gave = gave_more (c.args.limit + 1 - c.loop-rest.rest) n (c.args.limit + 1 - (c.loop-rest.rest - n)) _ c.pull.new.self _ _ _ inv.gave
           c.in_ok-count.ensures.held (omega (arith, inv.within, within));
-      stands = stands_on g.F.Feed.given g.F.Feed.left c.args.feed.now c.loop-rest.feed c.pull.new.feed
+      stands = stands_on (g.F.Feed.state c.args.feed.now) (g.F.Feed.state c.loop-rest.feed) (g.F.Feed.state c.pull.new.feed)
           (omega (arith, inv.counts, inv.within)) pulls.onward inv.stands pulls.stands;
       counts = omega (arith, inv.counts, c.in_ok-count.ensures.pulls.counts, within);
       works = c.in_ok-count.ensures.pulls.works ∙ inv.works;

@@ -10,7 +10,7 @@ returns-in_err-next-clause-takes g c =
     let whole : AreWholeLines (take count c.args.self.now.held) =
     subst (λ held. AreWholeLines (take count held)) c.held.ensures (c.lines_end-whole.ensures.whole some) in
     let same : c.from_residual.result ≡ Err c.in_err-next.field-0.0 = search rules in
-    rw same (refused g.S.Admit.admit_line c.args.state.now c.read_front.new.state c.args.self.now c.args.self.now count c.in_err-next.field-0.0 whole
+    rw same (refused g.S.Admit.admit_line c.args.state.now c.read_leading.new.state c.args.self.now c.args.self.now count c.in_err-next.field-0.0 whole
     c.in_err-next.ensures.read)
 
 pub returns-clause-takes : goal.returns-clause-takes
@@ -21,5 +21,5 @@ returns-clause-takes g c =
     subst (λ held. AreWholeLines (take count held)) c.held.ensures (c.lines_end-whole.ensures.whole some) in
     let within : count ≤ length c.args.self.now.held =
     subst (λ (held : List _). count ≤ length held) c.held.ensures c.lines_end-whole.ensures.within in
-    took g.S.Admit.admit_line c.args.state.now c.read_front.new.state c.args.self.now c.let_go.new.self count within whole
-    c.in_ok-next.ensures.read (search rules) c.let_go.ensures.begun c.let_go.ensures.held
+    took g.S.Admit.admit_line c.args.state.now c.read_leading.new.state c.args.self.now c.drop_taken.new.self count within whole
+    c.in_ok-next.ensures.read (search rules) c.drop_taken.ensures.begun c.drop_taken.ensures.held

@@ -11,7 +11,7 @@ invariant_of-self g c =
 
 pub returns-in-Ok-clause-gives : goal.returns-in-Ok-clause-gives
 returns-in-Ok-clause-gives g c =
-    ap (λ v. v.left) (sym c.self.view_is)
+    ap (λ v. v.remaining) (sym c.self.view_is)
     ∙ gave_back _ _ _ _ _ (take c.in-Ok.count c.read_some.new.buffer) c.self.invariant (invariant_of-self g c) c.in-Ok.ensures.reads.0
 
 pub returns-in-Ok-clause-reads : goal.returns-in-Ok-clause-reads

@@ -4,17 +4,18 @@ use Rattle.std.specs.List.{concat}
 use Rattle.pit_units.specs.Decimal.{shortest}
 use Rattle.pit_units.specs.DecimalRange.{IsInDecimalRange}
 use Rattle.minelib_writing.specs.inner.CoefParts.{coef_part}
-use Rattle.minelib_writing.specs.inner.LineIn.{line_in}
+use Rattle.pit_units.specs.Line.{line_in}
 use Rattle.minelib_writing.specs.inner.KeptParts.{HoldsFrom}
 use Rattle.minelib_writing.proofs.lines.coefs.CoefLinesParted.append.Given as goal
 
--- The parts so far are appended, and the end of their lines has the tonnes of the last of them, of which is known what their type keeps.
+-- The parts so far are appended, and the end of their lines has the tonnes of the last of them, with the facts that their type
+-- guarantees.
 abbrev pub invariant-loop-count : goal.invariant-loop-count
 invariant-loop-count g l = record {
   few : l.count ≤ l.most;
   within : l.index + l.count ≤ length (g.C.CoefList.list l.self.coefs.now);
-  tonnes : line_in l.room l.end ≡ 32 ∷ (shortest l.tonnes ++ 10 ∷ []);
-  end : (178 ≤ l.end) × (l.end ≤ 208);
+  tonnes : line_in l.scratch l.end ≡ 32 ∷ (shortest l.tonnes ++ 10 ∷ []);
+  end : (24 ≤ l.end) × (l.end ≤ 256);
   known : IsInDecimalRange l.tonnes;
   text : l.out.items ≡ l.initial.out.items
       ++ concat (take l.count (drop l.index (map (coef_part g.V.ValueList.list l.self.form) (g.C.CoefList.list l.self.coefs.now))));

@@ -6,4 +6,4 @@ pub returns-clause-text : goal.returns-clause-text
 returns-clause-text c = search (rules, append_assoc)
 
 pub returns-clause-kept : goal.returns-clause-kept
-returns-clause-kept c = on_ok_weaker c.append_line.result (λ _. tt) c.append_line.ensures
+returns-clause-kept c = on_ok_weaker c.append_line.result (λ _. tt) c.append_line.ensures.ok

@@ -1,28 +1,16 @@
-use Rattle.std.proofs.Common.{◌≡◌, ◌∙◌, ◌<◌, ℕ, List, length, ap, subst, sym, arith}
-use Rattle.std.proofs.lemmas.Bool.{leb-true}
+use Rattle.std.proofs.Common.{◌≡◌, ◌∙◌, ◌<◌, length, ap, sym, arith}
 use Rattle.std.proofs.lemmas.List.{length-map}
 use Rattle.std.proofs.lemmas.List.Elements.{All-map}
 use Rattle.plan_parts.specs.declared.block.Block.{Block}
-use Rattle.precedence.specs.Closed.{AreClosed, ComeLater}
 use Rattle.precedence.specs.Codes.{place_code}
 use Rattle.precedence.specs.Cone.{preds}
 use Rattle.precedence.specs.Zones.{HasZones}
 use Rattle.precedence.specs.inner.Lists.{in_cones}
-use Rattle.precedence.proofs.enough.States.{no_state}
 use Rattle.precedence.proofs.AllLists.{preds_are}
-use Rattle.precedence.proofs.Later.{rising_later}
-use Rattle.precedence.proofs.closed.OneCone.{one_table}
 use Rattle.precedence.proofs.lists.found_preds.FoundPreds.new.Goals as goal
 
 pub invariant_of-result : goal.invariant_of-result
 invariant_of-result c =
-    let found_is : in_cones c.in_ok-tables.tables.tables.items c.in_ok-tables.tables.of_zone.items c.in_ok-places.places.codes.items c.in_ok-zones.zones.items c.in_ok-places.places.codes.items
-    ≡ preds c.args.plan.now c.blocks-blocks.result.now =
-    (λ j. in_cones c.in_ok-tables.tables.tables.items c.in_ok-tables.tables.of_zone.items (c.in_ok-places.ensures j) (c.in_ok-zones.ensures j) (c.in_ok-places.ensures j))
-    ∙ preds_are c.args.plan.now c.as_slice.result.now c.in_ok-tables.tables.tables.items c.in_ok-tables.tables.of_zone.items c.blocks-blocks.result.now
-    (rw (c.grid.ensures.value, c.cones-cones.ensures.value) at c.in_ok-tables.ensures)
-    (rw c.as_slice.ensures.value c.in_ok-extents.ensures.near) (rw c.blocks-blocks.ensures.value c.blocks-blocks.ensures.rising)
-    (rw c.blocks-blocks.ensures.value c.requires) in
     let blocks = c.blocks-blocks.result.now in
     let tables = c.in_ok-tables.tables in
     let zones : HasZones c.args.plan.now blocks = rw c.blocks-blocks.ensures.value c.requires in
@@ -34,13 +22,7 @@ invariant_of-result c =
       zones = rw c.in_ok-zones.ensures (All-map (λ z. z < length tables.of_zone.items) (λ (b : Block). b.zone) blocks
           (λ k d lt. omega (arith, zones k d lt, c.in_ok-tables.ensures.zones, cones)));
       alike = rw (c.as_slice-2.ensures.value, c.as_slice-3.ensures.value, c.as_slice-4.ensures.value) at c.in_ok-alike.ensures;
-      states = rw (c.no_states.ensures.states, c.no_states.ensures.edges) (no_state tables.tables.items);
-      closed = λ known. subst (λ (lists : List (List ℕ)). AreClosed lists) (sym found_is)
-          (one_table c.args.plan.now c.as_slice.result.now tables.tables.items tables.of_zone.items blocks
-          (rw (c.grid.ensures.value, c.cones-cones.ensures.value) at c.in_ok-tables.ensures) c.cones-cones.ensures.kept.cones
-          (omega (arith, leb-true c.len-closed.result 1 known, c.len-closed.ensures, tables.tables.ok)) zones);
-      later = subst (λ (lists : List (List ℕ)). ComeLater lists) (sym found_is)
-          (rising_later c.args.plan.now blocks (rw c.blocks-blocks.ensures.value c.blocks-blocks.ensures.rising));
+      windows = c.in_ok-windows.ensures _ (omega (arith, c.len.ensures));
     }
 
 pub returns : goal.returns

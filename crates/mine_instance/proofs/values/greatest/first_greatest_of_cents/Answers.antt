@@ -1,9 +1,0 @@
-use Rattle.std.proofs.Common.{arith, pos}
-use Rattle.mine_instance.proofs.GreatestFacts.{first_in_hundreds}
-use Rattle.mine_instance.proofs.values.greatest.first_greatest_of_cents.Goals as goal
-
-pub returns-clause-value : goal.returns-clause-value
-returns-clause-value c =
-    let found = c.loop-index.invariant in
-    first_in_hundreds c.args.cents.now c.loop-index.best found.within (λ k h. found.less k (pos 0) h)
-    (λ k h. found.most k (pos 0) (omega arith))

@@ -1,0 +1,4 @@
+pub mod EncodedDenotes
+pub mod EncodedModelBack
+pub mod EncodedModelRead
+pub mod EncodedRead

@@ -1,4 +1,0 @@
-pub mod SpelledDenotes
-pub mod SpelledModelBack
-pub mod SpelledModelRead
-pub mod SpelledRead

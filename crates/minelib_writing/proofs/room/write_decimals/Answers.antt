@@ -1,7 +1,0 @@
-use Rattle.std.proofs.Common.{refl}
-use Rattle.minelib_writing.proofs.numbers.Fractions.{six_decimals}
-use Rattle.minelib_writing.proofs.room.write_decimals.Goals as goal
-
-pub returns-clause-text : goal.returns-clause-text
-returns-clause-text c =
-    rw (six_decimals c.args.millionths c.requires.0 c.if-rest-eq0.false, c.write_byte.ensures.text, c.write_three-at.ensures.text, c.write_last-at.ensures.text) refl

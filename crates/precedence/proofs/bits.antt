@@ -1,0 +1,10 @@
+pub mod Covering
+pub mod Dropping
+pub mod Gathered
+pub mod Looking
+pub mod Retained
+pub mod RowsMet
+pub mod Serving
+pub mod StripsMet
+pub mod Windows
+pub mod Words

@@ -1,0 +1,109 @@
+-- The reduced list by the codes and the cones of the blocks.
+use Rattle.std.proofs.Common.{◌≡◌, ℕ, ◌^◌, ◌<◌, ◌||◌, Bool, true, false, not, List, [], ◌∷◌, Contains, filter, length, get_or, sym, ap, ◌∙◌, arith, ⊎_elim}
+use Rattle.std.specs.List.{list_any}
+use Rattle.std.proofs.lemmas.Bool.{cases_Bool}
+use Rattle.std.proofs.lemmas.List.{get_or_default}
+use Rattle.std.proofs.lemmas.List.Folds.{list_any_at}
+use Rattle.std.proofs.lemmas.List.Kept.{IsStrictlyIncreasing-filter}
+use Rattle.precedence.specs.Behind.{is_behind}
+use Rattle.precedence.specs.IdRuns.{is_in}
+use Rattle.precedence.specs.inner.Between.{cone_of, is_in_cone, IsBetween}
+use Rattle.precedence.specs.inner.FoundFields.{found_in, scene_in, KeepsFound}
+use Rattle.precedence.specs.inner.lanes.Windows.{AreRetained}
+use Rattle.precedence.specs.inner.Lists.{lying}
+use Rattle.precedence.specs.inner.Rows.{is_in_rows}
+use Rattle.precedence.specs.inner.ZoneTables.{zone_rows}
+use Rattle.precedence.specs.declared.cones.cone_rows.Row.{Row}
+use Rattle.precedence.specs.declared.lists.found_preds.FoundPreds.TheInside.{Inside}
+use Rattle.precedence.proofs.AllLists.{few_found, found_at, found_length}
+use Rattle.precedence.proofs.Listed.{first_in, in_right, lying_rises, lying_within}
+use Rattle.precedence.proofs.Members.{contains_true, kept_from, kept_in, one_list, true_contains}
+use Rattle.precedence.proofs.PlacesWhere.{told_where}
+
+-- if some number of a list passes a test, a member does
+any_some : (test : ℕ → Bool) (xs : List ℕ) → list_any test xs ≡ true → (d : ℕ) × (is_in xs d ≡ true) × (test d ≡ true)
+any_some test [] h = absurd (let no : ⊥ = cc in no)
+any_some test (x ∷ xs) h = ⊎_elim
+    (λ passes. (x, first_in x xs, passes))
+    (λ fails.
+    let w = any_some test xs (sym (ap (λ b. b || list_any test xs) fails) ∙ h) in
+    (w.0, in_right (x ∷ []) xs w.0 w.1, w.2))
+    (cases_Bool (test x))
+
+module _ (f : Inside) (keeps : KeepsFound f) (lists : List (List ℕ)) (is : found_in f ≡ lists) (block : ℕ) (within : block < length lists) where
+  abbrev codes : List ℕ
+  codes = f.places.codes.items
+
+  abbrev cone : ℕ → List Row
+  cone = cone_of f.tables.tables.items f.tables.of_zone.items f.zones.items
+
+  few : length lists ≡ length codes
+  few = sym (ap length is) ∙ found_length f keeps ∙ keeps.each
+
+  -- the list of any block
+  list_is : (d : ℕ) → d < length codes → get_or lists d [] ≡ lying (get_or codes d 0) (cone d) codes
+  list_is d there =
+      let in_zones : d < length f.zones.items = omega (arith, there, keeps.each) in
+      found_at f keeps lists d (get_or f.zones.items d 0) (get_or codes d 0) is (omega (arith, there, few))
+      (get_or_default f.zones.items d 0 (get_or f.zones.items d 0) in_zones) (get_or_default codes d 0 (get_or codes d 0) there)
+
+  list_of : (d c : ℕ) → d < length codes → c < length codes → is_in (get_or lists d []) c ≡ is_in_cone codes cone d c
+  list_of d c there lt = ap (λ list. is_in list c) (list_is d there) ∙ told_where (is_in_rows (get_or codes d 0) (cone d)) c codes 0 lt
+
+  abbrev list : List ℕ
+  list = get_or lists block []
+
+  here : block < length codes
+  here = omega (arith, within, few)
+
+  -- a list has no more identifiers than there are blocks
+  pub few_listed : length list < 2 ^ 63
+  few_listed =
+      let zone = get_or f.zones.items block 0 in
+      let from = get_or codes block 0 in
+      let in_zones : block < length f.zones.items = omega (arith, here, keeps.each) in
+      few_found f keeps lists block zone from is within (get_or_default f.zones.items block 0 zone in_zones) (get_or_default codes block 0 from here)
+
+  in_codes : (d : ℕ) → is_in list d ≡ true → d < length codes
+  in_codes d has = lying_within (get_or codes block 0) (cone block) codes d (sym (ap (λ list. is_in list d) (list_is block here)) ∙ has)
+
+  -- a block between is a predecessor of a block of the list
+  any_is : (c d : ℕ) → c < length codes → IsBetween codes cone block c d → is_behind lists list c ≡ true
+  any_is c d there mid =
+      let at = true_contains list d (list_of block d here mid.within ∙ mid.above) in
+      list_any_at (λ d. is_in (get_or lists d []) c) list at.0 d at.1
+      (ap (λ d. is_in (get_or lists d []) c) at.2 ∙ list_of d c mid.within there ∙ mid.below)
+
+  mid_is : (c : ℕ) → c < length codes → is_behind lists list c ≡ true → (d : ℕ) × IsBetween codes cone block c d
+  mid_is c there some =
+      let w = any_some (λ d. is_in (get_or lists d []) c) list some in
+      let lt = in_codes w.0 w.1 in (
+        w.0,
+        record {
+          within = lt;
+          above = sym (list_of block w.0 here lt) ∙ w.1;
+          below = sym (list_of w.0 c lt there) ∙ w.2;
+        },
+      )
+
+  abbrev free : ℕ → Bool
+  free c = not (is_behind lists list c)
+
+  pub retained_is : (ids : List ℕ) → AreRetained (scene_in f) block ids → ids ≡ filter free list
+  retained_is ids r = one_list ids (filter free list) r.rising
+      (IsStrictlyIncreasing-filter free list (rw (list_is block here) (lying_rises (get_or codes block 0) (cone block) codes)))
+      (λ c has.
+      let s = r.sound c (contains_true ids c has) in
+      kept_in free list c (true_contains list c (list_of block c here s.0 ∙ s.1))
+      (⊎_elim (λ yes. absurd (let mid = mid_is c s.0 yes in s.2 mid.0 mid.1)) (λ no. ap not no) (cases_Bool (is_behind lists list c))))
+      (λ c has.
+      let w = kept_from free list c has in
+      let own = contains_true list c w.0 in
+      let there = in_codes c own in
+      ⊎_elim
+      (λ found. true_contains ids c found)
+      (λ mid.
+      let yes = any_is c mid.0 there mid.1 in
+      let both : false ≡ true = sym (ap not yes) ∙ w.1 in
+      absurd (let bad : ⊥ = cc in bad))
+      (r.complete c there (sym (list_of block c here there) ∙ own)))

@@ -1,0 +1,182 @@
+-- What the lanes of a window retain, strip by strip and distance by distance.
+use Rattle.std.proofs.Common.{◌≡◌, ℕ, ◌+◌, ◌-◌, ◌<◌, ◌≤◌, ◌&&◌, ◌++◌, ◌∷◌, [], true, List, All, length, get_or, map, inl, inr, ◌⊎◌, refl, sym, ap, subst, ◌∙◌, arith, ⊎_elim}
+use Rattle.std.specs.List.Sorted.{IsStrictlyIncreasing}
+use Rattle.std.proofs.lemmas.Bool.{and_from, and_parts, cases_lt, cases_order, eqb-true}
+use Rattle.std.proofs.lemmas.List.{get_or_append_left, get_or_default, get_or-map, get_or_push, length-append, length-map}
+use Rattle.std.proofs.lemmas.Nat.Bits.{bit_at-zero}
+use Rattle.precedence.specs.inner.lanes.Bits.{has_bit}
+use Rattle.precedence.specs.inner.lanes.Windows.{AreFound, AreFoundBy, Drops, HasDistance, IsFoundFor, IsRetained, MayDrop, MeetsAny, SeesAt}
+use Rattle.precedence.specs.declared.cones.cone_table.ConeTable.{ConeTable}
+use Rattle.precedence.specs.declared.lanes.strip.Strip.{Strip}
+use Rattle.precedence.specs.declared.lanes.strips.Found.{Found}
+use Rattle.precedence.specs.declared.lanes.strips.Sight.{Sight}
+
+pub no_bit : (i : ℕ) → has_bit 0 i ≡ true → ⊥
+no_bit i h = let zero = bit_at-zero i in let one = eqb-true _ _ h in absurd (omega (arith, zero, one))
+
+-- ---- lanes dropped in turn
+
+module _ (Why : ℕ → Type 0) where
+  pub drops_both : (there some rest : ℕ) → MayDrop Why there some → Drops Why some rest → Drops Why there rest
+  drops_both there some rest first then = record {
+    may = record {
+      among = λ i has. first.among i (then.may.among i has);
+      dropped = λ i has. ⊎_elim (λ kept. then.may.dropped i kept) (λ why. inr why) (first.dropped i has);
+    };
+    none = then.none;
+  }
+
+-- ---- what is found
+
+-- a longer list meets what all its elements meet
+at_push : {X : Type 0} (P : X → Type 0) (xs : List X) (x d : X) (k : ℕ) → k < length (xs ++ x ∷ []) → (k < length xs → P (get_or xs k d)) → P x
+    → P (get_or (xs ++ x ∷ []) k d)
+at_push P xs x d k lt old new = ⊎_elim
+    (λ less. subst P (sym (get_or_append_left xs (x ∷ []) d k less)) (old less))
+    (λ le.
+    let last : length xs ≡ k = omega (arith, length-append xs (x ∷ []), lt, le) in
+    subst P (sym (get_or_push xs x d k last)) new)
+    (cases_lt k (length xs))
+
+distances_rise : (found : List Found) (f : Found) → IsStrictlyIncreasing (map (λ (g : Found). g.distance) found)
+    → All (λ (g : Found). g.distance < f.distance) found → IsStrictlyIncreasing (map (λ (g : Found). g.distance) (found ++ f ∷ []))
+distances_rise found f rising below k lt =
+    let all = found ++ f ∷ [] in
+    let long = length-append found (f ∷ []) in
+    let lt_all : k + 1 < length all = omega (arith, lt, length-map all (λ (g : Found). g.distance)) in
+    let one = get_or-map (λ (g : Found). g.distance) all k f 0 (omega arith) in
+    let two = get_or-map (λ (g : Found). g.distance) all (k + 1) f 0 lt_all in
+    let here = ap (λ (g : Found). g.distance) (get_or_append_left found (f ∷ []) f k (omega arith)) in
+    ⊎_elim
+    (λ less.
+    let next = ap (λ (g : Found). g.distance) (get_or_append_left found (f ∷ []) f (k + 1) less) in
+    let old = rising k (omega (arith, less, length-map found (λ (g : Found). g.distance))) in
+    let old_one = get_or-map (λ (g : Found). g.distance) found k f 0 (omega arith) in
+    let old_two = get_or-map (λ (g : Found). g.distance) found (k + 1) f 0 less in
+    omega (arith, one, two, here, next, old, old_one, old_two))
+    (λ le.
+    let last : length found ≡ k + 1 = omega arith in
+    let next = ap (λ (g : Found). g.distance) (get_or_push found f f (k + 1) last) in
+    omega (arith, one, two, here, next, below k f (omega arith)))
+    (cases_lt (k + 1) (length found))
+
+found_push : (found : List Found) (f : Found) (i distance : ℕ) → IsFoundFor found i distance → IsFoundFor (found ++ f ∷ []) i distance
+found_push found f i distance has =
+    let lt = has.1 in (
+      has.0,
+      omega (arith, lt, length-append found (f ∷ [])),
+      λ g. subst (λ (x : Found). (x.distance ≡ distance) × (has_bit x.lanes i ≡ true)) (sym (get_or_append_left found (f ∷ []) g has.0 has.1)) (has.2 g),
+    )
+
+found_last : (found : List Found) (f : Found) (i distance : ℕ) → f.distance ≡ distance → has_bit f.lanes i ≡ true → IsFoundFor (found ++ f ∷ []) i distance
+found_last found f i distance at has = (
+  length found,
+  omega (arith, length-append found (f ∷ [])),
+  λ g. subst (λ (x : Found). (x.distance ≡ distance) × (has_bit x.lanes i ≡ true)) (sym (get_or_push found f g (length found) refl)) (at, has),
+)
+
+module _ (tables : List ConeTable) (sight : Sight) (lanes : ℕ) where
+  abbrev strips : List Strip
+  strips = sight.all.strips.items
+
+  abbrev Between : (distance i : ℕ) → Type 0
+  Between = MeetsAny tables sight.by_table.items
+
+  -- nothing is retained before a later distance
+  pub found_more : (upto until : ℕ) (found : List Found) → AreFound tables sight lanes upto found → upto ≤ until
+      → ((j i d : ℕ) (s : Strip) → j < length strips → has_bit lanes i ≡ true → SeesAt (get_or strips j s) i d → upto ≤ d → d < until → Between d i)
+      → AreFound tables sight lanes until found
+  found_more upto until found h le none = record {
+    rising = h.rising;
+    below = λ k d lt. omega (arith, h.below k d lt);
+    sound = h.sound;
+    complete = λ j i distance s lt within lane sees. ⊎_elim
+        (λ low. h.complete j i distance s low within lane sees)
+        (λ up. inr (none j i distance s within lane sees up lt))
+        (cases_lt distance upto);
+  }
+
+  module _ (number : ℕ) (s : Strip) (within : number < length strips) (is : s ≡ get_or strips number s) where
+    at : (t : Strip) → get_or strips number t ≡ s
+    at t = get_or_default strips number t s within ∙ sym is
+
+    -- no other strip has a distance of this one
+    only : (j i distance : ℕ) (t : Strip) → j < length strips → HasDistance s distance → SeesAt (get_or strips j t) i distance → SeesAt s i distance
+    only j i distance t lt has sees = ⊎_elim
+        (λ same. subst (λ (x : Strip). SeesAt x i distance) (ap (λ n. get_or strips n t) same ∙ at t) sees)
+        (λ other. absurd (⊎_elim
+        (λ less. omega (arith, sight.all.apart j number t less within, ap (λ (x : Strip). x.start) (at t), sees.distance.1, has.0))
+        (λ more. omega (arith, sight.all.apart number j t more lt, ap (λ (x : Strip). x.start) (at t), ap (λ (x : Strip). x.len) (at t), sees.distance.0, has.1))
+        other))
+        (cases_order j number)
+
+    -- the strip begins
+    pub found_start : (found : List Found) → AreFoundBy tables sight lanes number found → AreFound tables sight lanes s.start found
+    found_start found h = found_more h.upto s.start found h.are (omega (arith, h.coming number s (omega arith) within, ap (λ (x : Strip). x.start) is))
+        (λ j i d t lt lane sees up low. absurd (⊎_elim
+        (λ less. omega (arith, sees.distance.1, h.passed j t less lt))
+        (λ le. ⊎_elim
+        (λ more. omega (arith, sees.distance.0, sight.all.apart number j t more lt, ap (λ (x : Strip). x.start) (at t)))
+        (λ no. let same : number ≡ j = omega arith in omega (arith, sees.distance.0, ap (λ (x : Strip). x.start) (sym (at t)), ap (λ n. (get_or strips n t).start) same))
+        (cases_lt number j))
+        (cases_lt j number)))
+
+    -- the strip ends
+    pub found_end : (found : List Found) → AreFound tables sight lanes (s.start + s.len) found → AreFoundBy tables sight lanes (number + 1) found
+    found_end found h = record {
+      upto = s.start + s.len;
+      are = h;
+      small = s.small;
+      passed = λ k t lt in'. ⊎_elim
+          (λ less. omega (arith, sight.all.apart k number t less within, ap (λ (x : Strip). x.start) (at t)))
+          (λ le. let same : number ≡ k = omega arith in
+          omega (arith, ap (λ (x : Strip). x.start) (at t), ap (λ (x : Strip). x.len) (at t), ap (λ n. (get_or strips n t).start) same, ap (λ n. (get_or strips n t).len) same))
+          (cases_lt k number);
+      coming = λ k t le in'. omega (arith, sight.all.apart number k t (omega arith) in', ap (λ (x : Strip). x.start) (at t), ap (λ (x : Strip). x.len) (at t));
+    }
+
+    module _ (distance there rest : ℕ) (found : List Found) (h : AreFound tables sight lanes distance found) (has : HasDistance s distance)
+        (seen : (i : ℕ) → has_bit there i ≡ (has_bit lanes i && has_bit s.word (i + (distance - s.start))))
+        (drops : Drops (Between distance) there rest) where
+      there_at : (j i : ℕ) (t : Strip) → j < length strips → has_bit lanes i ≡ true → SeesAt (get_or strips j t) i distance
+          → (has_bit rest i ≡ true) ⊎ Between distance i
+      there_at j i t lt lane sees =
+          drops.may.dropped i (seen i ∙ and_from _ _ lane (only j i distance t lt has sees).bit)
+
+      -- nothing is retained at the distance
+      pub found_not : rest ≡ 0 → AreFound tables sight lanes (distance + 1) found
+      found_not none = found_more distance (distance + 1) found h (omega arith)
+          (λ j i d t lt lane sees up low.
+          let same : d ≡ distance = omega arith in
+          ⊎_elim
+          (λ kept. absurd (no_bit i (subst (λ n. has_bit n i ≡ true) none kept)))
+          (λ between. subst (λ n. Between n i) (sym same) between)
+          (there_at j i t lt lane (subst (λ n. SeesAt (get_or strips j t) i n) same sees)))
+
+      retained : (f : Found) (i : ℕ) → f.distance ≡ distance → f.lanes ≡ rest → has_bit f.lanes i ≡ true → IsRetained tables sight lanes i f.distance
+      retained f i at_distance lanes_are bit =
+          let kept : has_bit rest i ≡ true = subst (λ n. has_bit n i ≡ true) lanes_are bit in
+          let both = and_parts (has_bit lanes i) _ (sym (seen i) ∙ drops.may.among i kept) in
+          subst (λ n. IsRetained tables sight lanes i n) (sym at_distance) (record {
+            lane = both.0;
+            seen = (number, within, λ t. subst (λ (x : Strip). SeesAt x i distance) (sym (at t)) (record { distance = has; bit = both.1 }));
+            alone = drops.none i kept;
+          })
+
+      -- these lanes retain what they see there
+      pub found_these : (f : Found) → f.distance ≡ distance → f.lanes ≡ rest → AreFound tables sight lanes (distance + 1) (found ++ f ∷ [])
+      found_these f at_distance lanes_are = record {
+        rising = distances_rise found f h.rising (λ k d lt. omega (arith, h.below k d lt));
+        below = λ k d lt. at_push (λ (x : Found). x.distance < distance + 1) found f d k lt (λ less. omega (arith, h.below k d less)) (omega arith);
+        sound = λ k i g lt. at_push (λ (x : Found). has_bit x.lanes i ≡ true → IsRetained tables sight lanes i x.distance) found f g k lt
+            (λ less. h.sound k i g less) (retained f i at_distance lanes_are);
+        complete = λ j i d t lt in' lane sees. ⊎_elim
+            (λ less. ⊎_elim (λ old. inl (found_push found f i d old)) (λ between. inr between) (h.complete j i d t less in' lane sees))
+            (λ le.
+            let same : d ≡ distance = omega arith in
+            ⊎_elim
+            (λ kept. inl (found_last found f i d (at_distance ∙ sym same) (subst (λ n. has_bit n i ≡ true) (sym lanes_are) kept)))
+            (λ between. inr (subst (λ n. Between n i) (sym same) between))
+            (there_at j i t in' lane (subst (λ n. SeesAt (get_or strips j t) i n) same sees)))
+            (cases_lt d distance);
+      }

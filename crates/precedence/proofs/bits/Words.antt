@@ -1,0 +1,67 @@
+-- One bit of a word through each operation.
+use Rattle.std.proofs.Common.{◌≡◌, ℕ, zero, suc, ◌+◌, ◌-◌, ◌/◌, ◌%◌, ◌^◌, ◌<◌, ◌≤◌, min, max, Bool, true, false, not, ◌&&◌, ◌||◌, ◌==◌, nat_lt, nat_le, bit_and, bit_or, ⊎_elim, refl, sym, ap, ◌∙◌, arith}
+use Rattle.std.specs.Int.{bit_at, w128}
+use Rattle.std.proofs.lemmas.Bool.{cases_lt, lt-ltb, le-ltb, le-leb, lt-leb, and_parts, and_cases, both_ways, not-true, not-false}
+use Rattle.std.proofs.lemmas.Nat.{shr-shr}
+use Rattle.std.proofs.lemmas.Nat.Bits.{bit_at_and, bit_at_or, bit_at_not, bit_at_above, bit_at-lt, bit_at_mask_inside, bit_at_mask_below, bit_at_mask_above}
+use Rattle.precedence.specs.inner.lanes.Bits.{has_bit}
+
+two_cases : (P : ℕ → Type 0) → P 0 → P 1 → (x : ℕ) → x < 2 → P x
+two_cases P p q zero h = p
+two_cases P p q (suc zero) h = q
+two_cases P p q (suc (suc r)) h = absurd (omega arith)
+
+two_bits : (P : ℕ → ℕ → Type 0) → P 0 0 → P 0 1 → P 1 0 → P 1 1 → (a b i : ℕ) → P (bit_at a i) (bit_at b i)
+two_bits P p q r s a b i =
+    two_cases (λ x. P x (bit_at b i)) (two_cases (P 0) p q (bit_at b i) (bit_at-lt b i)) (two_cases (P 1) r s (bit_at b i) (bit_at-lt b i)) (bit_at a i) (bit_at-lt a i)
+
+pub has_bit_and : (a b i : ℕ) → has_bit (bit_and a b) i ≡ (has_bit a i && has_bit b i)
+has_bit_and a b i = ap (λ n. n == 1) (bit_at_and a b i) ∙ two_bits (λ x y. (min x y == 1) ≡ ((x == 1) && (y == 1))) refl refl refl refl a b i
+
+pub has_bit_or : (a b i : ℕ) → has_bit (bit_or a b) i ≡ (has_bit a i || has_bit b i)
+has_bit_or a b i = ap (λ n. n == 1) (bit_at_or a b i) ∙ two_bits (λ x y. (max x y == 1) ≡ ((x == 1) || (y == 1))) refl refl refl refl a b i
+
+pub has_bit_shr : (a k i : ℕ) → has_bit (a / 2 ^ k) i ≡ has_bit a (i + k)
+has_bit_shr a k i =
+    let e : k + i ≡ i + k = omega arith in
+    ap (λ x. x % 2 == 1) (shr-shr a k i) ∙ ap (λ j. has_bit a j) e
+
+has_bit_not : (a i : ℕ) → a < 2 ^ 128 → i < 128 → has_bit (2 ^ 128 - 1 - a) i ≡ not (has_bit a i)
+has_bit_not a i fits within =
+    ap (λ n. n == 1) (bit_at_not w128 a i fits within) ∙ two_cases (λ x. ((1 - x) == 1) ≡ not (x == 1)) refl refl (bit_at a i) (bit_at-lt a i)
+
+-- a word has no bit from 128 on
+has_bit_above : (a i : ℕ) → a < 2 ^ 128 → 128 ≤ i → has_bit a i ≡ false
+has_bit_above a i fits from = ap (λ n. n == 1) (bit_at_above a 128 i fits from)
+
+-- the lanes that are not seen
+has_bit_cleared : (lanes seen i : ℕ) → lanes < 2 ^ 128 → seen < 2 ^ 128 → has_bit (bit_and lanes (2 ^ 128 - 1 - seen)) i ≡ (has_bit lanes i && not (has_bit seen i))
+has_bit_cleared lanes seen i fits seen_fits = ⊎_elim
+    (λ within. has_bit_and lanes (2 ^ 128 - 1 - seen) i ∙ ap (λ b. has_bit lanes i && b) (has_bit_not seen i seen_fits within))
+    (λ above.
+    let no = has_bit_above lanes i fits above in
+    has_bit_and lanes (2 ^ 128 - 1 - seen) i ∙ ap (λ b. b && has_bit (2 ^ 128 - 1 - seen) i) no ∙ sym (ap (λ b. b && not (has_bit seen i)) no))
+    (cases_lt i 128)
+
+pub kept_parts : (lanes seen i : ℕ) → lanes < 2 ^ 128 → seen < 2 ^ 128 → has_bit (bit_and lanes (2 ^ 128 - 1 - seen)) i ≡ true → (has_bit lanes i ≡ true) × (has_bit seen i ≡ false)
+kept_parts lanes seen i fits seen_fits kept =
+    let h = and_parts (has_bit lanes i) (not (has_bit seen i)) (sym (has_bit_cleared lanes seen i fits seen_fits) ∙ kept) in
+    (h.0, not-true _ h.1)
+
+pub cleared_from : (lanes seen i : ℕ) → lanes < 2 ^ 128 → seen < 2 ^ 128 → has_bit lanes i ≡ true → has_bit (bit_and lanes (2 ^ 128 - 1 - seen)) i ≡ false → has_bit seen i ≡ true
+cleared_from lanes seen i fits seen_fits lane gone = ⊎_elim
+    (λ none. absurd (both_ways _ none lane))
+    (λ seen_it. not-false _ seen_it)
+    (and_cases (has_bit lanes i) (not (has_bit seen i)) (sym (has_bit_cleared lanes seen i fits seen_fits) ∙ gone))
+
+pub has_bit_mask : (low high p : ℕ) → low ≤ high → has_bit (2 ^ high - 2 ^ low) p ≡ (nat_le low p && nat_lt p high)
+has_bit_mask low high p le = ⊎_elim
+    (λ below. ap (λ n. n == 1) (bit_at_mask_below low high p below) ∙ sym (ap (λ b. b && nat_lt p high) (lt-leb low p below)))
+    (λ from. ⊎_elim
+    (λ inside. ap (λ n. n == 1) (bit_at_mask_inside low high p from inside) ∙ sym (ap2 (le-leb low p from) (lt-ltb p high inside)))
+    (λ above. ap (λ n. n == 1) (bit_at_mask_above low high p above) ∙ sym (ap2 (le-leb low p from) (le-ltb p high above)))
+    (cases_lt p high))
+    (cases_lt p low)
+  where
+    ap2 : {a b : Bool} {x y : Bool} → a ≡ x → b ≡ y → (a && b) ≡ (x && y)
+    ap2 e f = cc

@@ -1,0 +1,43 @@
+use Rattle.std.proofs.Common.{◌+◌, ◌<◌, length, All, sym, subst, arith}
+use Rattle.precedence.specs.inner.lanes.Windows.{IsCover}
+use Rattle.precedence.proofs.bits.Covering.{MeetsTables, more_tables, this_table, last_table, any_of_tables, tables_of_any, cover_is}
+use Rattle.precedence.proofs.bits.Dropping.{drops_more, drops_so}
+use Rattle.precedence.proofs.lanes.covering.drop_by_all.Goals.{then-place-len+in_ok-keep_cover, else-place-len}
+use Rattle.precedence.proofs.lanes.covering.drop_by_all.Goals as goal
+
+pub loop-number-preserved : goal.loop-number-preserved
+loop-number-preserved c =
+    let tables = c.args.tables.now in
+    let by_table = c.args.by_table.now in
+    let number = c.loop-number.number in
+    let table = c.index-tables-number.result in
+    let strips = c.index-by_table-number.result in
+    let lt : number < length tables = omega (arith, c.loop-number-test.true) in
+    record {
+      covers = elim c.if-place-len.branch [
+        | then-place-len+in_ok-keep_cover w ↦
+            let strip = w.index.result.now in
+            let inside : c.get-place.result < length strips.strips.items = omega (arith, w.if-place-len, c.len.ensures) in
+            subst (λ cs. All (IsCover c.args.lanes by_table) cs) (λ i. (sym w.covers-is i).items)
+            (w.in_ok-keep_cover.ensures c.args.lanes by_table c.loop-number.invariant.covers
+            (cover_is by_table c.args.lanes number c.get-place.result strips strip w.cover_of-cover.result (omega (arith, lt, c.requires.each))
+            c.index-by_table-number.is inside w.index.ensures w.cover_of-cover.ensures.table w.cover_of-cover.ensures.strip
+            w.cover_of-cover.ensures.first w.cover_of-cover.ensures.past w.cover_of-cover.ensures.all))
+        | else-place-len w ↦ subst (λ cs. All (IsCover c.args.lanes by_table) cs) (λ i. (sym w.covers-is i).items) c.loop-number.invariant.covers
+      ];
+      drops = drops_more (MeetsTables tables by_table c.args.distance (number + 1))
+          (λ i meets. more_tables tables by_table c.requires.each c.args.distance number i meets)
+          (λ i meets. this_table tables by_table c.requires.each c.args.distance number i table strips lt c.index-tables-number.is c.index-by_table-number.is meets)
+          (λ i meets. last_table tables by_table c.requires.each c.args.distance number i table strips lt c.index-tables-number.is c.index-by_table-number.is meets)
+          c.loop-number.invariant.drops
+          c.drop_by_strips-rest.ensures;
+    }
+
+pub returns-clause-drops : goal.returns-clause-drops
+returns-clause-drops c =
+    let tables = c.args.tables.now in
+    let by_table = c.args.by_table.now in
+    drops_so
+    (λ i meets. any_of_tables tables by_table c.requires.each c.args.distance c.loop-number.number i meets)
+    (λ i meets. tables_of_any tables by_table c.requires.each c.args.distance c.loop-number.number i (omega (arith, c.loop-number-test.false)) meets)
+    c.loop-number.invariant.drops

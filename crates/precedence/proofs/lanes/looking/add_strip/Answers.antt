@@ -1,0 +1,120 @@
+use Rattle.std.proofs.Common.{◌≡◌, ℕ, ◌+◌, ◌<◌, ◌≤◌, List, ◌∷◌, [], ◌++◌, set, sym, refl, ap, subst, ◌∙◌, length, get_or, arith, ⊎_elim}
+use Rattle.std.proofs.lemmas.Bool.{cases_eq}
+use Rattle.std.proofs.lemmas.List.{get_or-set_other, get_or-set_same, get_or_read, length-set}
+use Rattle.std.proofs.lemmas.List.Elements.{All-get_or}
+use Rattle.precedence.specs.inner.lanes.Windows.{any_block, of_table, scene}
+use Rattle.precedence.specs.inner.lanes.Looking.{HasBlocks, IsGrown, IsJoined}
+use Rattle.std.proofs.lemmas.Result.{on_ok_weaker}
+use Rattle.precedence.specs.declared.lanes.strip.Strip.{Strip}
+use Rattle.precedence.specs.declared.lanes.strips.Strips.{Strips}
+use Rattle.precedence.specs.inner.Between.{codes_in}
+use Rattle.precedence.proofs.bits.Looking.{grown_all, grown_more, grown_none, grown_others, grown_push, has_all, has_none, has_run, table_read}
+use Rattle.precedence.proofs.runs.Starts.{from_start, start_before_in}
+use Rattle.precedence.proofs.lanes.looking.add_strip.Goals as goal
+use Rattle.precedence.proofs.lanes.looking.add_strip.Goals.{then-loop-id-test+else-codes-id, else-loop-id-test}
+
+pub loop-id-init : goal.loop-id-init
+loop-id-init c =
+    let b = c.args.cones.now in
+    let strip = c.args.strip in
+    let from = c.args.base + strip.start in
+    let before = λ (k : ℕ) (lt : k < strip.id). start_before_in from k (codes_in b) (let first = c.requires.first in omega (arith, lt, first)) in
+    record {
+      later = omega arith;
+      same = refl;
+      blocks = has_none b any_block from (strip.len + 63) strip.id before;
+      by_table = record {
+        tables = refl;
+        each = λ n s lt. grown_none b (of_table (scene b) n) from strip (get_or c.args.sight.now.by_table.items n s).strips.items strip.id
+            (has_none b (of_table (scene b) n) from (strip.len + 63) strip.id before);
+      };
+    }
+
+pub run_from-bits-requires-clause-low : goal.run_from-bits-requires-clause-low
+run_from-bits-requires-clause-low c =
+    let b = c.args.cones.now in
+    let from = c.args.base + c.args.strip.start in
+    let later = c.loop-id.invariant.later in
+    let first = c.requires.first in
+    from_start from c.loop-id.id (codes_in b) b.places.now.rising (omega (arith, later, first))
+    (let lt = c.loop-id-test.true in omega (arith, lt, ap length c.as_slice-codes.ensures.value))
+
+pub loop-id-preserved : goal.loop-id-preserved
+loop-id-preserved c =
+    let b = c.args.cones.now in
+    let strip = c.args.strip in
+    let from = c.args.base + strip.start in
+    let had = c.loop-id.invariant in
+    let id = c.loop-id.id in
+    let run = c.run_from-bits.ensures in
+    let past = c.run_from-bits.result.1 in
+    let bits = c.run_from-bits.result.0 in
+    let lt : id < length (codes_in b) = omega (arith, run.later, run.within) in
+    let number = c.index-number.result.now in
+    let table = table_read b id number lt c.index-number.ensures in
+    let first = c.args.sight.now.by_table.items in
+    let old = c.loop-id.sight.by_table.items in
+    let new = c.add_bits.new.strips in
+    let zone = All-get_or (λ z. z < length b.tables.now.of_zone.items) b.zones.now id 0 (let each = b.each in omega (arith, each, lt)) b.zoned in
+    let small = All-get_or (λ t. t < length b.tables.now.tables.items) b.tables.now.of_zone.items (get_or b.zones.now id 0) 0 zone b.tables.now.below in
+    let within : number < length old = let tables = had.by_table.tables in let each = c.requires.tables in omega (arith, small, table, tables, each) in
+    let joins : IsJoined c.loop-id.word bits c.joined-word.result =
+    record { left = c.joined-word.ensures.left; right = c.joined-word.ensures.right; either = c.joined-word.ensures.either } in
+    let few = strip.few in
+    record {
+      later = let later = had.later in omega (arith, later, run.later);
+      same = had.same;
+      blocks = has_run b any_block from (strip.len + 63) id past 128 bits run c.loop-id.word c.joined-word.result (omega (arith, few))
+          (λ i le less. refl) joins had.blocks;
+      by_table = record {
+        tables = length-set old number new ∙ had.by_table.tables;
+        each = λ n s in_n. ⊎_elim
+            (λ same.
+            let written : get_or (set old number new) n s ≡ new = rw same (get_or-set_same old number new s within) in
+            let read : c.index_mut.result.now ≡ get_or old n s = rw same (get_or_read old number c.index_mut.result.now within c.index_mut.ensures.value s) in
+            let before = subst (λ (t : Strips). IsGrown (scene b) (of_table (scene b) n) from id strip (get_or first n s).strips.items t.strips.items) (sym read) (had.by_table.each n s in_n) in
+            subst (λ (t : Strips). IsGrown (scene b) (of_table (scene b) n) from past strip (get_or first n s).strips.items t.strips.items) (sym written)
+            (grown_more b (of_table (scene b) n) from strip (get_or first n s).strips.items id past bits c.index_mut.result.now.strips.items new.strips.items run
+            (λ i le less. run.table i le less ∙ table ∙ sym same) (c.requires.tables_end n s in_n) c.in_ok-add_bits.ensures before))
+            (λ other.
+            let kept : get_or (set old number new) n s ≡ get_or old n s = get_or-set_other old number n new s other in
+            subst (λ (t : Strips). IsGrown (scene b) (of_table (scene b) n) from past strip (get_or first n s).strips.items t.strips.items) (sym kept)
+            (grown_others b (of_table (scene b) n) from strip (get_or first n s).strips.items id past bits (get_or old n s).strips.items run
+            (λ i le less is. other (sym is ∙ run.table i le less ∙ table)) (had.by_table.each n s in_n)))
+            (cases_eq n number);
+      };
+    }
+
+pub returns-clause-added : goal.returns-clause-added
+returns-clause-added c =
+    let b = c.args.cones.now in
+    let strip = c.args.strip in
+    let from = c.args.base + strip.start in
+    let had = c.loop-id.invariant in
+    let id = c.loop-id.id in
+    let s = c.with_word.result in
+    let value = c.as_slice-codes.ensures.value in
+    let here = ap (λ cs. get_or cs id 0) value in
+    let far : id < length (codes_in b) → from + (strip.len + 63) ≤ get_or (codes_in b) id 0 =
+    λ lt. elim c.loop-id-test.branch [
+      | then-loop-id-test+else-codes-id w ↦ omega (arith, w.if-codes-id.false, here, c.from.ensures)
+      | else-loop-id-test w ↦ absurd (omega (arith, lt, w.loop-id-test.false, ap length value))
+    ] in
+    let last = had.blocks in
+    let blocks : HasBlocks (scene b) any_block from (strip.len + 63) (length (codes_in b)) s.word =
+    rw c.with_word.ensures.word (has_all b any_block from (strip.len + 63) id c.loop-id.word far last) in
+    let first = c.args.sight.now in
+    let old = c.loop-id.sight in
+    let new = c.push_strip.new.strips in
+    let grown = grown_push old.all.strips.items s b any_block from (length (codes_in b)) strip c.with_word.ensures.like blocks in
+    on_ok_weaker c.push_strip.result
+    (λ (pushed : new.strips.items ≡ old.all.strips.items ++ s ∷ []). record {
+      all = subst (λ (xs : List Strip). IsGrown (scene b) any_block from (length (codes_in b)) strip xs new.strips.items) had.same
+          (rw pushed grown);
+      by_table = record {
+        tables = had.by_table.tables;
+        each = λ n d lt. grown_all b (of_table (scene b) n) from strip (get_or first.by_table.items n d).strips.items id
+            (get_or old.by_table.items n d).strips.items far (had.by_table.each n d lt);
+      };
+    })
+    c.push_strip.ensures

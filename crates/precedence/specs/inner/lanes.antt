@@ -1,0 +1,4 @@
+pub mod Bits
+pub mod Looking
+pub mod Strips
+pub mod Windows

@@ -1,0 +1,150 @@
+//! Windows: the reduced lists of up to 64 blocks with one cone.
+
+ghost use Rattle.std.specs.Prelude.{◌≡◌, ◌<◌, [], IfOk, IsTrue, OnOk, length, slice_index, slice_index_or};
+ghost use Rattle.precedence.specs.inner.lanes.Windows.{scene, AreRetained, AreWindows, HasLane, IsWindow, Scene, table_of};
+ghost use Rattle.precedence.specs.declared.lanes.strips.Window.{Window};
+
+use crate::cones::block_cones::BlockCones;
+use crate::lanes::bits::has_bit;
+use crate::lanes::looking::{lanes_of, look};
+use crate::lanes::serving::serve;
+use crate::lanes::strips::{Sight, Strips, Window, Windows};
+use crate::places::start_of::start_of;
+use std::alloc::{AllocError, Global};
+
+/// Returns one window without lanes for each of `tables` tables.
+pub fn no_windows(alloc: Global, tables: usize) -> Result<Windows, AllocError>
+    ensures { IfOk result (λ windows. (b : Scene) → length b.tables ≡ tables → AreWindows b windows) }
+{
+    let mut windows = Vec::with_capacity(alloc, tables)?;
+    let mut by_table = Vec::with_capacity(alloc, tables)?;
+    for _ in 0..tables {
+        windows.push(Window {
+            base: 0,
+            lanes: 0,
+            found: Vec::new(alloc),
+        })?;
+        by_table.push(no_strips(alloc))?;
+    }
+    Ok(Windows {
+        windows,
+        sight: Sight {
+            all: no_strips(alloc),
+            by_table,
+        },
+        covers: Vec::new(alloc),
+    })
+}
+
+fn no_strips(alloc: Global) -> Strips {
+    Strips {
+        strips: Vec::new(alloc),
+        starts: Vec::new(alloc),
+        benches: Vec::new(alloc),
+    }
+}
+
+/// Appends the block's reduced list to `ids`. The window of its cone is replaced if the block is no lane of it.
+pub fn add_retained(
+    ids: &mut Vec<u32>,
+    windows: &mut Windows,
+    cones: &BlockCones<'_>,
+    id: usize,
+) -> Result<(), AllocError>
+    requires id { id < length (scene cones.now).codes }
+    requires none { ids.old.items ≡ [] }
+    requires windows { AreWindows (scene cones.now) windows.old }
+    ensures retained { OnOk result (AreRetained (scene cones.now) id ids.new.items) }
+    ensures windows { AreWindows (scene cones.now) windows.new }
+{
+    let number = cones.tables.of_zone[cones.zones[id] as usize];
+    find_window(windows, cones, number, id)?;
+    add_lane(ids, cones, &windows.windows[number], id)
+}
+
+// Replaces the window of a table by a window from the block `id` on, if the block is no lane of it.
+fn find_window(
+    windows: &mut Windows,
+    cones: &BlockCones<'_>,
+    number: usize,
+    id: usize,
+) -> Result<(), AllocError>
+    requires id { id < length (scene cones.now).codes }
+    requires number { number ≡ table_of (scene cones.now) id }
+    requires windows { AreWindows (scene cones.now) windows.old }
+    ensures lane { OnOk result ((w : Window)
+        → HasLane (slice_index_or windows.new.windows.items number w) (slice_index (scene cones.now).codes id)) }
+    ensures windows { AreWindows (scene cones.now) windows.new }
+{
+    if has_lane(&windows.windows[number], cones.places.codes[id]) {
+        return Ok(());
+    }
+    make_window(windows, cones, number, id)
+}
+
+fn has_lane(window: &Window, code: u64) -> bool
+    ensures { IsTrue result → HasLane window.now code }
+{
+    window.base <= code
+        && code - window.base < 64
+        && has_bit(window.lanes, (code - window.base) as u32)
+}
+
+// Replaces the window of a table by a window from the block `id` on.
+fn make_window(
+    windows: &mut Windows,
+    cones: &BlockCones<'_>,
+    number: usize,
+    id: usize,
+) -> Result<(), AllocError>
+    requires id { id < length (scene cones.now).codes }
+    requires number { number ≡ table_of (scene cones.now) id }
+    requires windows { AreWindows (scene cones.now) windows.old }
+    ensures lane { OnOk result ((w : Window)
+        → HasLane (slice_index_or windows.new.windows.items number w) (slice_index (scene cones.now).codes id)) }
+    ensures windows { AreWindows (scene cones.now) windows.new }
+{
+    let Windows {
+        windows,
+        sight,
+        covers,
+    } = windows;
+    let window = &mut windows[number];
+    let base = cones.places.codes[id];
+    let lanes = lanes_of(cones, number, id);
+    window.lanes = 0;
+    window.found.clear();
+    covers.clear();
+    let tables = cones.tables.tables.as_slice();
+    look(sight, cones, &tables[number], base, id)?;
+    serve(&mut window.found, covers, tables, sight, lanes)?;
+    window.base = base;
+    window.lanes = lanes;
+    Ok(())
+}
+
+// Appends the reduced list of a block that is a lane of the window.
+fn add_lane(
+    ids: &mut Vec<u32>,
+    cones: &BlockCones<'_>,
+    window: &Window,
+    id: usize,
+) -> Result<(), AllocError>
+    requires id { id < length (scene cones.now).codes }
+    requires none { ids.old.items ≡ [] }
+    requires window { IsWindow (scene cones.now) (table_of (scene cones.now) id) window.now }
+    requires lane { HasLane window.now (slice_index (scene cones.now).codes id) }
+    ensures { OnOk result (AreRetained (scene cones.now) id ids.new.items) }
+{
+    let codes = cones.places.codes.as_slice();
+    let code = codes[id];
+    let lane = (code - window.base) as u32;
+    for found in window.found.iter() {
+        if has_bit(found.lanes, lane) {
+            let id = start_of(codes, found.near.get(), code + found.distance);
+            found.near.set(id);
+            ids.push(id as u32)?;
+        }
+    }
+    Ok(())
+}

@@ -1,7 +1,0 @@
--- The position of a row among several lists of packed items.
-use Rattle.std.specs.Prelude.{ℕ}
-
--- the number of the list, and the position in it, each from 0
-pub record SpotView : Type 0 where
-  pub list : ℕ
-  pub position : ℕ
