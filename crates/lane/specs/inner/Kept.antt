@@ -10,6 +10,7 @@ use Rattle.crossbeam_channel.specs.Fifo.{Forks}
 use Rattle.lane.specs.declared.message.Taken.{Taken}
 use Rattle.lane.specs.declared.part.Part.{Part}
 use Rattle.lane.specs.declared.part.Part.TheVariants.{Put, Take, Close}
+use Rattle.lane.specs.Machine.{Size}
 use Rattle.lane.specs.Message.{IsEndedFrom}
 use Rattle.lane.specs.MessageKinds.{has_end, is_done, row_count}
 use Rattle.lane.specs.MessageOrders.{IsFrom}
@@ -74,10 +75,10 @@ IsClosers (Close files takers capacity stops quits ∷ v) = Unit {0}
 IsClosers _ = ⊥
 
 -- some ended parts joined the closer's, and those of the rest are to come
-pub record IsJoining (files takers capacity : ℕ) (lane : Lane) (all rest : List PutEndView) (v : List Part) (count : ℕ) : Type 0 where
-  pub part : v ≡ Close files takers capacity 0 0 ∷ put_parts capacity 0 (sent_lists v)
+pub record IsJoining (size : Size) (lane : Lane) (all rest : List PutEndView) (v : List Part) (count : ℕ) : Type 0 where
+  pub part : v ≡ Close size.files size.takers size.capacity 0 0 ∷ put_parts size.capacity 0 (sent_lists v)
   pub lists : sent_lists v ++ map (λ p. p.sent) rest ≡ map (λ p. p.sent) all
-  pub puts : ArePutsFrom lane files (length (sent_lists v)) rest
+  pub puts : ArePutsFrom lane size.files (length (sent_lists v)) rest
   pub ended : AllByRecursion (λ l. has_end l ≡ true) (sent_lists v)
   pub rows : sum_by row_count (sent_lists v) ≡ count
   pub few : count ≤ length (sent_lists v) * MAX_ROWS
@@ -89,10 +90,10 @@ pub record IsJoined (v : List Part) (files takers capacity : ℕ) : Type 0 where
   pub ended : AllByRecursion (λ l. has_end l ≡ true) (sent_lists v)
 
 -- some take parts joined the closer's, and those of the rest are to come
-pub record IsGathering (files takers capacity : ℕ) (lane : Lane) (sent : List (List Taken)) (all rest : List TakeEndView) (v : List Part) : Type 0 where
-  pub part : v ≡ full_view files takers capacity sent (taken_lists v)
+pub record IsGathering (size : Size) (lane : Lane) (sent : List (List Taken)) (all rest : List TakeEndView) (v : List Part) : Type 0 where
+  pub part : v ≡ full_view size.files size.takers size.capacity sent (taken_lists v)
   pub lists : taken_lists v ++ map (λ t. t.took) rest ≡ map (λ t. t.took) all
-  pub takes : AreTakesFrom lane takers (length (taken_lists v)) rest
+  pub takes : AreTakesFrom lane size.takers (length (taken_lists v)) rest
   pub done : AllByRecursion (λ l. is_done l ≡ true) (taken_lists v)
   pub rest_done : AllByRecursion (λ t. is_done t.took ≡ true) rest
 

@@ -10,7 +10,7 @@ loop-put-preserved c =
     let joined = rw loop.invariant.0 at (ap (λ (s : SeatView). s.known) c.join.ensures.joined) in
     let few : c.from-rows.result ≤ 1000000 = omega (arith, c.from-rows.ensures, c.join.ensures.few) in (
       ap (λ (s : SeatView). s.lane) c.join.ensures.joined ∙ loop.invariant.0,
-      join_more _ _ _ _ _ _ _ c.in-Some.put _ _ _ (rw steps.0 at loop.invariant.1) joined c.join.ensures.ended
+      join_more _ _ _ _ _ c.in-Some.put _ _ _ (rw steps.0 at loop.invariant.1) joined c.join.ensures.ended
           (c.from-rows.ensures ∙ c.join.ensures.rows) few,
       one_less _ _ c.in-Some.put _ _ loop.invariant.2 steps.0 (sym steps.1),
     )

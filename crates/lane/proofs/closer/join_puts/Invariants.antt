@@ -7,6 +7,6 @@ use Rattle.lane.proofs.closer.join_puts.Given as goal
 abbrev pub invariant-loop-put : goal.invariant-loop-put
 invariant-loop-put l =
     (l.seat.lane ≡ l.fn.seat.lane)
-    × IsJoining l.files l.takers (room_of l.fn.seat) l.fn.seat.lane
+    × IsJoining (record { files = l.files; takers = l.takers; capacity = room_of l.fn.seat }) l.fn.seat.lane
     (into_iter_items l.initial.put-iterator) (into_iter_items l.put-iterator) l.seat.known l.rows
     × (into_iter_len l.put-iterator ≡ length (into_iter_items l.put-iterator))

@@ -19,7 +19,7 @@ loop-take-preserved c =
     let steps = c.in-Some.ensures.steps in
     let joined = rw loop.invariant.0 at (ap (λ (s : SeatView). s.known) c.join.ensures.joined) in (
       ap (λ (s : SeatView). s.lane) c.join.ensures.joined ∙ loop.invariant.0,
-      gather_more _ _ _ _ _ _ _ _ c.in-Some.take _ (rw steps.0 at loop.invariant.1) joined,
+      gather_more _ _ _ _ _ _ c.in-Some.take _ (rw steps.0 at loop.invariant.1) joined,
       one_less _ _ c.in-Some.take _ _ loop.invariant.2 steps.0 (sym steps.1),
     )
 
@@ -27,7 +27,7 @@ pub returns : goal.returns
 returns c =
     let loop = c.loop-take in
     let none = nothing_left (into_iter_items loop.take-iterator) (sym loop.invariant.2 ∙ c.in-None.ensures.steps.0) in
-    let all = gather_done _ _ c.args.seat.now.lane _ _ _ _ (rw none at loop.invariant.1) refl c.requires.stopped.some_taker in
+    let all = gather_done _ c.args.seat.now.lane _ _ _ (rw none at loop.invariant.1) refl c.requires.stopped.some_taker in
     record {
       lane = loop.invariant.0;
       full = all.0;

@@ -7,6 +7,6 @@ use Rattle.lane.proofs.closer.join_takes.Given as goal
 abbrev pub invariant-loop-take : goal.invariant-loop-take
 invariant-loop-take l =
     (l.seat.lane ≡ l.fn.seat.lane)
-    × IsGathering (length (sent_lists l.fn.seat.known)) l.takers (room_of l.fn.seat) l.fn.seat.lane
+    × IsGathering (record { files = length (sent_lists l.fn.seat.known); takers = l.takers; capacity = room_of l.fn.seat }) l.fn.seat.lane
     (sent_lists l.fn.seat.known) (into_iter_items l.initial.take-iterator) (into_iter_items l.take-iterator) l.seat.known
     × (into_iter_len l.take-iterator ≡ length (into_iter_items l.take-iterator))
