@@ -6,7 +6,7 @@ use Rattle.std.proofs.Math.IntN.{*ℤ-zero}
 use Rattle.precedence.specs.Closed.{ComeLater, HasArc}
 use Rattle.fewer_arcs.specs.Fewer.{fewer}
 use Rattle.fewer_arcs.specs.Mined.{IsPit, IsSchedule}
-use Rattle.fewer_arcs.specs.Optima.{sum, count, IsBest, pit_value, schedule_value, shares_value, Shares, mined_in, mined_by, Fall, IsSharedOut, IsUltimatePit, IsBestSchedule, AreBestShares}
+use Rattle.fewer_arcs.specs.Optima.{sum, count, IsBest, pit_value, schedule_value, shares_value, Shares, mined_in, mined_by, Fall, IsSharedOut, ShareModel, IsUltimatePit, IsBestSchedule, AreBestShares}
 use Rattle.fewer_arcs.proofs.Sums.{none_of, one_more, sum_le, sum_of_two, sum_same, sum_times, times_more, times_mono, times_times}
 use Rattle.fewer_arcs.proofs.Told.{mined_back, mined_there, pit_back, pit_there, schedule_back, schedule_there}
 
@@ -32,17 +32,16 @@ module _ (lists : List (List ℕ)) (later : ComeLater lists) where
       let worth = schedule_value n weight value in
       (best_of few all worth there back period_of, best_of all few worth back there period_of)
 
-  pub best_shares : (are_within : Shares → Bool) (unit n periods destinations : ℕ) (weight : ℕ → ℕ) (value : ℕ → ℕ → ℤ) (shares : Shares)
-      → AreBestShares (fewer lists) are_within unit n periods destinations weight value shares
-      ↔ AreBestShares lists are_within unit n periods destinations weight value shares
-  best_shares are_within unit n periods destinations weight value shares =
-      let few = λ (other : Shares). IsSharedOut (fewer lists) unit destinations other × (are_within other ≡ true) in
-      let all = λ (other : Shares). IsSharedOut lists unit destinations other × (are_within other ≡ true) in
+  pub best_shares : (are_within : Shares → Bool) (m : ShareModel) (shares : Shares)
+      → AreBestShares (fewer lists) are_within m shares ↔ AreBestShares lists are_within m shares
+  best_shares are_within m shares =
+      let few = λ (other : Shares). IsSharedOut (fewer lists) m.unit m.destinations other × (are_within other ≡ true) in
+      let all = λ (other : Shares). IsSharedOut lists m.unit m.destinations other × (are_within other ≡ true) in
       let there : (other : Shares) → few other → all other = λ other own.
-      (record { order = mined_there lists later (mined_by destinations other) own.0.order; most = own.0.most }, own.1) in
+      (record { order = mined_there lists later (mined_by m.destinations other) own.0.order; most = own.0.most }, own.1) in
       let back : (other : Shares) → all other → few other = λ other own.
-      (record { order = mined_back lists later (mined_by destinations other) own.0.order; most = own.0.most }, own.1) in
-      let worth = shares_value n periods destinations weight value in
+      (record { order = mined_back lists later (mined_by m.destinations other) own.0.order; most = own.0.most }, own.1) in
+      let worth = shares_value m in
       (best_of few all worth there back shares, best_of all few worth back there shares)
 
 falls_to : (periods : ℕ) (weight : ℕ → ℕ) → Fall periods weight → (a d : ℕ) → weight (a + d) ≤ weight a
@@ -235,7 +234,8 @@ module _ (lists : List (List ℕ)) (n : ℕ) (value : ℕ → ℤ) (pit : ℕ �
         )
 
     pub shares_below : (unit periods : ℕ) (weight : ℕ → ℕ) (shares : Shares) → Fall periods weight → IsSharedOut lists unit destinations shares
-        → (shares_value n periods destinations weight worth shares) ≤ℤ (pos (weight 0 * unit) *ℤ most)
+        → (shares_value (record { blocks = n; periods = periods; destinations = destinations; unit = unit; weight = weight; value = worth }) shares)
+        ≤ℤ (pos (weight 0 * unit) *ℤ most)
     shares_below unit periods weight shares fall is =
         let each = sum_le n (λ b. sum periods (λ period. sum destinations (λ d. pos (weight period * shares b period d) *ℤ worth b d)))
         (λ b. pos (count periods (λ period. weight period * mined_in destinations shares b period)) *ℤ value b) (in_all periods weight shares) in

@@ -43,19 +43,29 @@ mined_in destinations shares b period = count destinations (shares b period)
 abbrev pub mined_by : ℕ → Shares → ℕ → ℕ → ℕ
 mined_by destinations shares b period = count (suc period) (mined_in destinations shares b)
 
+-- what shares are chosen for: the number of blocks, of periods and of destinations, the unit of shares, the weight of each period, and the
+-- value of each block at each destination
+pub record ShareModel : Type 0 where
+  pub blocks : ℕ
+  pub periods : ℕ
+  pub destinations : ℕ
+  pub unit : ℕ
+  pub weight : ℕ → ℕ
+  pub value : ℕ → ℕ → ℤ
+
 -- each share times the weight of its period and the value of its block at its destination
-abbrev pub shares_value : ℕ → ℕ → ℕ → (ℕ → ℕ) → (ℕ → ℕ → ℤ) → Shares → ℤ
-shares_value n periods destinations weight value shares =
-    sum n (λ b. sum periods (λ period. sum destinations (λ d. pos (weight period * shares b period d) *ℤ value b d)))
+abbrev pub shares_value : ShareModel → Shares → ℤ
+shares_value m shares = sum m.blocks (λ b. sum m.periods (λ period.
+    sum m.destinations (λ d. pos (m.weight period * shares b period d) *ℤ m.value b d)))
 
 -- at most `unit` of each block is mined, and by the end of a period no more of a block than of each predecessor
 pub record IsSharedOut (lists : List (List ℕ)) (unit destinations : ℕ) (shares : Shares) : Type 0 where
   pub order : IsMinedInOrder lists (mined_by destinations shares)
   pub most : (b period : ℕ) → mined_by destinations shares b period ≤ unit
 
-abbrev pub AreBestShares : List (List ℕ) → (Shares → Bool) → ℕ → ℕ → ℕ → ℕ → (ℕ → ℕ) → (ℕ → ℕ → ℤ) → Shares → Type 0
-AreBestShares lists are_within unit n periods destinations weight value shares =
-    IsBest (λ other. IsSharedOut lists unit destinations other × (are_within other ≡ true)) (shares_value n periods destinations weight value) shares
+abbrev pub AreBestShares : List (List ℕ) → (Shares → Bool) → ShareModel → Shares → Type 0
+AreBestShares lists are_within m shares =
+    IsBest (λ other. IsSharedOut lists m.unit m.destinations other × (are_within other ≡ true)) (shares_value m) shares
 
 -- the weights of the periods never rise, and are 0 after the last period
 pub record Fall (periods : ℕ) (weight : ℕ → ℕ) : Type 0 where

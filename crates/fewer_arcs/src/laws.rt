@@ -12,7 +12,7 @@ ghost use Rattle.plan_parts.specs.declared.cone.Cone.{Cone};
 ghost use Rattle.fewer_arcs.specs.Fewer.{fewer, left_of};
 ghost use Rattle.fewer_arcs.specs.Left.{IsLeft, Rise, StandForAll};
 ghost use Rattle.fewer_arcs.specs.Mined.{IsMinedInOrder, IsPit, IsSchedule};
-ghost use Rattle.fewer_arcs.specs.Optima.{AreBestShares, Fall, IsBestSchedule, IsSharedOut, IsUltimatePit, Shares, pit_value, schedule_value, shares_value};
+ghost use Rattle.fewer_arcs.specs.Optima.{AreBestShares, Fall, IsBestSchedule, IsSharedOut, IsUltimatePit, ShareModel, Shares, pit_value, schedule_value, shares_value};
 ghost use Rattle.fewer_arcs.specs.SayTheSame.{AreAmong, HaveWays, SaysTheSame};
 
 use precedence::laws::{preds_come_later, preds_rise};
@@ -50,10 +50,8 @@ pub fn optima_are_the_same()
     ensures cpit { (lists : List (List ℕ)) (is_within : (ℕ → ℕ) → Bool) (n : ℕ) (weight : ℕ → ℕ) (value : ℕ → ℤ) (period_of : ℕ → ℕ)
         → ComeLater lists
         → (IsBestSchedule (fewer lists) is_within n weight value period_of ↔ IsBestSchedule lists is_within n weight value period_of) }
-    ensures pcpsp { (lists : List (List ℕ)) (are_within : Shares → Bool) (unit n periods destinations : ℕ) (weight : ℕ → ℕ)
-        (value : ℕ → ℕ → ℤ) (shares : Shares) → ComeLater lists
-        → (AreBestShares (fewer lists) are_within unit n periods destinations weight value shares
-        ↔ AreBestShares lists are_within unit n periods destinations weight value shares) }
+    ensures pcpsp { (lists : List (List ℕ)) (are_within : Shares → Bool) (model : ShareModel) (shares : Shares) → ComeLater lists
+        → (AreBestShares (fewer lists) are_within model shares ↔ AreBestShares lists are_within model shares) }
 {}
 
 /// Guarantees that no schedule has a larger value than the ultimate pit mined in the first period. The weights of periods must never
@@ -63,11 +61,11 @@ pub fn no_schedule_is_worth_more()
     ensures whole { (lists : List (List ℕ)) (n periods : ℕ) (weight : ℕ → ℕ) (value : ℕ → ℤ) (pit : ℕ → Bool) (period_of : ℕ → ℕ)
         → Fall periods weight → IsUltimatePit lists n value pit → IsSchedule lists period_of
         → (schedule_value n weight value period_of) ≤ℤ (pos (weight 0) *ℤ pit_value n value pit) }
-    ensures shares { (lists : List (List ℕ)) (unit n periods destinations : ℕ) (weight : ℕ → ℕ) (value : ℕ → ℤ) (worth : ℕ → ℕ → ℤ)
-        (pit : ℕ → Bool) (shares : Shares)
-        → Fall periods weight → IsUltimatePit lists n value pit → IsSharedOut lists unit destinations shares
-        → ((b d : ℕ) → d < destinations → (worth b d) ≤ℤ (value b))
-        → (shares_value n periods destinations weight worth shares) ≤ℤ (pos (weight 0 * unit) *ℤ pit_value n value pit) }
+    ensures shares { (lists : List (List ℕ)) (model : ShareModel) (value : ℕ → ℤ) (pit : ℕ → Bool) (shares : Shares)
+        → Fall model.periods model.weight → IsUltimatePit lists model.blocks value pit
+        → IsSharedOut lists model.unit model.destinations shares
+        → ((b d : ℕ) → d < model.destinations → (model.value b d) ≤ℤ (value b))
+        → (shares_value model shares) ≤ℤ (pos (model.weight 0 * model.unit) *ℤ pit_value model.blocks value pit) }
 {}
 
 /// Guarantees that the reduced list of a strictly ascending list is a part of it in its order. Each dropped block is a predecessor of

@@ -6,5 +6,5 @@ returns-clause-whole c = λ lists n periods weight value pit period_of fall best
     schedule_below lists n value pit best period_of is periods weight fall
 
 pub returns-clause-shares : goal.returns-clause-shares
-returns-clause-shares c = λ lists unit n periods destinations weight value worth pit shares fall best is above.
-    shares_below lists n value pit best destinations worth above unit periods weight shares fall is
+returns-clause-shares c = λ lists m value pit shares fall best is above.
+    shares_below lists m.blocks value pit best m.destinations m.value above m.unit m.periods m.weight shares fall is

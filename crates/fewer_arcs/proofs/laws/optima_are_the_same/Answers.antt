@@ -8,5 +8,4 @@ pub returns-clause-cpit : goal.returns-clause-cpit
 returns-clause-cpit c = λ lists is_within n weight value period_of later. best_schedules lists later is_within n weight value period_of
 
 pub returns-clause-pcpsp : goal.returns-clause-pcpsp
-returns-clause-pcpsp c = λ lists are_within unit n periods destinations weight value shares later.
-    best_shares lists later are_within unit n periods destinations weight value shares
+returns-clause-pcpsp c = λ lists are_within model shares later. best_shares lists later are_within model shares
