@@ -1,9 +1,9 @@
-"""Outcomes of runs, on which tools/run-pages tries the statement `Runs` of pit_compile: right ones and altered ones."""
+"""Outcomes of runs and of calls of a sink, right ones and altered ones, on which tools/run-pages tries what the definitions state."""
 import itertools
 import re
 from typing import Any, Dict, Iterator, List, NamedTuple, Optional, Tuple
 
-from pages import Function, Made, Pages, chain, each
+from pages import Function, Made, Pages, applied, chain, each
 from rows.trial import Trial
 from shared import ENDINGS
 
@@ -25,10 +25,9 @@ class Outcome(NamedTuple):
 UNTOUCHED = ((False, b"", 0),) * len(NAMES)
 
 
-def sinks_of(sinks: Tuple[Tuple[bool, bytes, int], ...]) -> Function:
-    """Returns the states of the sinks, by the name of their text."""
-    states = [{"begun": begun, "before": (), "taken": Made("Some", (chain(taken),)), "failures": failures} for begun, taken, failures in sinks]
-    return Function(1, lambda name: states[NAMES.index(name)])
+def state_of(begun: bool, taken: bytes, failures: int, before: bytes = b"") -> Dict[str, Any]:
+    """Returns the state of a sink."""
+    return {"begun": begun, "before": chain(before), "taken": Made("Some", (chain(taken),)), "failures": failures}
 
 
 def texts_wanted(trial: Trial) -> Optional[List[bytes]]:
@@ -138,11 +137,83 @@ def altered(outcome: Outcome) -> Iterator[Tuple[str, Outcome]]:
     yield "more valuers than were requested", outcome._replace(valuers=VALUERS + 1)
 
 
+def altered_rows(rows: List[Dict[str, Any]]) -> Iterator[Tuple[str, List[Dict[str, Any]]]]:
+    """Yields rows that differ from a model's in one thing, each with this thing."""
+    first = rows[0]
+    yield "a row less", rows[1:]
+    yield "a row twice", [first, *rows]
+    yield "the next file", [{**first, "file": first["file"] + 1}, *rows[1:]]
+    yield "the next place", [{**first, "place": first["place"] + 1}, *rows[1:]]
+    yield "another block", [{**first, "block": {**first["block"], "kg": first["block"]["kg"] + 1}}, *rows[1:]]
+    worth, others = first["worths"]
+    yield "a cent more", [{**first, "worths": (worth + 1, others)}, *rows[1:]]
+    yield "a worth less", [{**first, "worths": others}, *rows[1:]]
+
+
+class Put(NamedTuple):
+    """The bytes that a sink was called to take, its state before and after, and the result of the call."""
+
+    text: bytes
+    old: Dict[str, Any]
+    new: Dict[str, Any]
+    answer: Made
+
+
+def puts() -> Iterator[Tuple[bool, str, Put]]:
+    """Yields calls of a sink, each with whether it may end so."""
+    refused = Made("Err", (Made("SinkFailed"),))
+    for text, begun in itertools.product((b"", b"1 2\n"), (True, False)):
+        old = state_of(begun, b"0\n", 2, b"==")
+
+        def put(answer: Made, taken: bytes, failures: int, text=text, old=old, **other) -> Put:
+            return Put(text, old, {**old, "taken": Made("Some", (chain(taken),)), "failures": failures, **other}, answer)
+
+        for count in range(len(text) + 2):
+            answer = Made("Ok", (count,))
+            yield count in range(min(1, len(text)), len(text) + 1), f"{count} bytes are taken", put(answer, b"0\n" + text[:count], 2)
+            yield False, f"{count} bytes are taken, one more is held", put(answer, b"0\n" + text[:count] + b"3", 2)
+            yield False, f"{count} bytes are put first", put(answer, b"3" + text[:count] + b"0\n", 2)
+            yield False, f"{count} bytes are taken by a call that failed", put(answer, b"0\n" + text[:count], 3)
+            yield False, f"{count} bytes are taken, and the sink is begun", put(answer, b"0\n" + text[:count], 2, begun=not begun)
+            yield False, f"{count} bytes are taken, and others before them", put(answer, b"0\n" + text[:count], 2, before=chain(b"="))
+        yield True, "refused", put(refused, b"0\n", 3)
+        yield False, "refused, with bytes that were taken", put(refused, b"0\n3", 3)
+        yield False, "refused, and the sink is begun", put(refused, b"0\n", 3, begun=not begun)
+        yield False, "refused, and the text is dropped", put(refused, b"", 3)
+        for failures in (2, 4):
+            yield False, f"refused, {failures - 2} calls failed", put(refused, b"0\n", failures)
+
+
 class Judge:
-    """Decides whether outcomes are among those that `Runs` states."""
+    """Decides whether outcomes are among those that the definitions state."""
 
     def __init__(self, pages: Pages):
         self.pages = pages
+
+    def sinks(self, sinks: Tuple[Tuple[bool, bytes, int], ...]) -> Function:
+        """Returns the states of sinks, by the name of their text."""
+        return self.pages.call("pit_compile.Sinks", "sink_states", Function(1, lambda sink: state_of(*sink)), dict(zip(ENDINGS, sinks)))
+
+    def may_put(self, put: Put) -> bool:
+        """Returns whether a sink may do this when it is called to take bytes."""
+        return bool(self.pages.call("devices.sinks.SinkState", "IsPut", chain(put.text), put.old, put.new, put.answer))
+
+    def rows(self, plan, texts) -> List[Dict[str, Any]]:
+        """Returns the rows that the messages of a model make."""
+        formulas = self.pages.call("plan_parts.PlanFormulas", "formulas_of_plan", plan)
+        return [self.pages.call("rows.Valued", "row_by", formulas, *message.held) for file in self.sent(plan, texts) for message in file if message.tag == "Row"]
+
+    def are_rows(self, plan, texts, rows: List[Dict[str, Any]]) -> bool:
+        """Returns whether rows have the blocks of the model, each with its file and place, and their worths are the values of its
+        instance."""
+        word = self.pages.call
+        blocks, cents = word("precedence.Identifier", "blocks_of_rows", chain(rows)), word("mine_instance.OfModel", "in_hundreds")
+        places = [({"file": row["file"], "row": row["place"] + 2}, row["block"]) for row in rows]
+        if places != list(each(word("pit_compile.Rows", "model_rows", plan, texts))):
+            return False
+        numbered = sorted(rows, key=lambda row: word("precedence.Identifier", "id", blocks, row["block"]))
+        values = [[applied(cents, worth) for worth in each(row["worths"])] for row in numbered]
+        return values == [list(each(of_block)) for of_block in each(word("pit_compile.ZoneFiles", "instance_from", plan, texts)["values"])]
 
     def sent(self, plan, texts) -> List[List[Made]]:
         return [list(each(file)) for file in each(self.pages.call("pit_compile.Rows", "model_sends", plan, texts))]
@@ -162,4 +233,4 @@ class Judge:
         lefts = chain(Made("Some", (text,)) for text in each(texts))
         fails = Function(1, lambda file: file == outcome.failed)
         return bool(word("pit_compile.Run", "Runs", plan, word("plan_parts.PlanFormulas", "formulas_of_plan", plan), settings, lefts, fails, STARTS,
-                         sinks_of(UNTOUCHED), sinks_of(outcome.sinks), outcome.result))
+                         self.sinks(UNTOUCHED), self.sinks(outcome.sinks), outcome.result))
