@@ -104,12 +104,18 @@ def code_of(path):
     return COMMENT_OR_TEXT.sub(" ", read(path))
 
 
+# The declaration of a module with its own file, and whether only tests compile it.
+MODULE = re.compile(r"(#\[cfg\(test\)\]\s*)?(?:#\[[^\]]*\]\s*)*(?:\bpub\b\s*(?:\([^)]*\)\s*)?)?\bmod\s+(\w+)\s*;")
+
+
 def test_files():
-    """Returns the files of crates/ that only tests compile: modules after `#[cfg(test)]`, and the contents of their folders."""
+    """Returns the files of crates/ that only tests compile: modules that are declared after `#[cfg(test)]` and nowhere else in their file, and
+    the contents of their folders."""
     found = []
     for path in glob.glob("crates/*/src/**/*.rt", recursive=True):
         folder = os.path.dirname(path) if os.path.basename(path) in ("lib.rt", "main.rt") else path[: -len(".rt")]
-        for name in re.findall(r"#\[cfg\(test\)\]\s*(?:pub )?mod (\w+);", code_of(path)):
+        declared = MODULE.findall(code_of(path))
+        for name in {name for of_tests, name in declared if of_tests} - {name for of_tests, name in declared if not of_tests}:
             found += [f"{folder}/{name}.rt", *glob.glob(f"{folder}/{name}/**/*.rt", recursive=True)]
     return set(found)
 
