@@ -1,5 +1,5 @@
 -- How the ends of a lane are seen: by the end of the channel and the pass that they have.
-use Rattle.std.specs.Prelude.{ℕ, List, [], ◌∷◌}
+use Rattle.std.specs.Prelude.{ℕ, ◌+◌, List, [], ◌∷◌}
 use Rattle.atomic_table.specs.declared.badge.Badge.{Badge}
 use Rattle.crossbeam_channel.specs.declared.flavors.array.Doing.{Doing}
 use Rattle.crossbeam_channel.specs.declared.flavors.array.Key.{Key}
@@ -9,10 +9,10 @@ use Rattle.crossbeam_channel.specs.Ends.{ruled_capacity}
 use Rattle.lane.specs.declared.message.Taken.{Taken}
 use Rattle.lane.specs.declared.part.Part.{Part}
 use Rattle.lane.specs.declared.part.Part.TheVariants.{Put, Take, Close}
-use Rattle.lane.specs.Ends.{Lane, PutEndView, TakeEndView, CloserView, GivenUpView, StoppedView}
+use Rattle.lane.specs.Ends.{Lane, PutEndView, TakeEndView, CloserView, GivenUpView, EndedView, StoppedView}
 use Rattle.lane.specs.Whole.{GatheredView}
 
--- what the first part of a view knows: its list, and the Quits that the closer put
+-- what the first part of a view knows: its list, and the Quits or all marks that the closer put
 abbrev pub sent_in : List Part → List Taken
 sent_in (Put file capacity sent ∷ v) = sent
 sent_in _ = []
@@ -24,6 +24,10 @@ took_in _ = []
 abbrev pub quits_in : List Part → ℕ
 quits_in (Close files takers capacity stops quits ∷ v) = quits
 quits_in _ = 0
+
+abbrev pub marks_in : List Part → ℕ
+marks_in (Close files takers capacity stops quits ∷ v) = stops + quits
+marks_in _ = 0
 
 -- the lists of all put parts, and of all take parts
 abbrev pub sent_lists : List Part → List (List Taken)
@@ -73,6 +77,9 @@ closer_view s files takers = record { lane = s.lane; files = files; takers = tak
 
 abbrev pub given_up_view : SeatView → GivenUpView
 given_up_view s = record { lane = s.lane; quits = quits_in s.known }
+
+abbrev pub ended_view : SeatView → EndedView
+ended_view s = record { lane = s.lane; marks = marks_in s.known }
 
 abbrev pub stopped_view : SeatView → ℕ → StoppedView
 stopped_view s takers = record { lane = s.lane; takers = takers; sent = sent_lists s.known }

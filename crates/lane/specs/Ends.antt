@@ -33,6 +33,11 @@ pub record GivenUpView : Type 0 where
   pub lane : Lane
   pub quits : ℕ
 
+-- a lane that was stopped or given up, and how many marks were put, each of which ends a taker
+pub record EndedView : Type 0 where
+  pub lane : Lane
+  pub marks : ℕ
+
 -- a stopped lane, with what each file sent
 pub record StoppedView : Type 0 where
   pub lane : Lane

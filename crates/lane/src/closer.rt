@@ -5,7 +5,7 @@ ghost use Rattle.std.specs.List.{All, sum_by};
 ghost use Rattle.crossbeam_channel.specs.Ends.{receives_on};
 ghost use Rattle.lane.specs.MessageKinds.{is_done, row_count};
 ghost use Rattle.lane.specs.Rule.{put_parts};
-ghost use Rattle.lane.specs.EndFields.{sent_lists, taken_lists, room_of, closer_view, given_up_view, stopped_view};
+ghost use Rattle.lane.specs.EndFields.{sent_lists, taken_lists, room_of, marks_in, quits_in, closer_view, given_up_view, stopped_view};
 ghost use Rattle.lane.specs.Ends.{ArePutsFrom, AreTakesFrom, CloserView, GivenUpView, StoppedView};
 ghost use Rattle.lane.specs.inner.Kept.{IsChannelOf, IsJoined, IsStopping, IsAllIn, IsCloser};
 ghost use Rattle.lane.specs.Whole.{IsWhole};
@@ -113,12 +113,15 @@ impl Model for GivenUp {
     ghost Value = { GivenUpView };
 
     ghost view = { λ e. given_up_view e.seat };
+
+    ghost invariant = { λ e. marks_in e.seat.known ≡ quits_in e.seat.known };
 }
 
 impl GivenUp {
     /// The sender and the pass by which it gave the lane up.
     pub fn seat(&self) -> &SeatedSender
-        ensures { self.now ≡ given_up_view result.now }
+        ensures seen { self.now ≡ given_up_view result.now }
+        ensures marks { marks_in result.now.known ≡ self.now.quits }
     {
         &self.seat
     }
@@ -188,7 +191,8 @@ impl Model for Stopped {
 impl Stopped {
     /// The sender and the pass by which it stopped the lane.
     pub fn seat(&self) -> &SeatedSender
-        ensures { self.now ≡ stopped_view result.now self.now.takers }
+        ensures seen { self.now ≡ stopped_view result.now self.now.takers }
+        ensures marks { marks_in result.now.known ≡ self.now.takers }
     {
         &self.seat
     }

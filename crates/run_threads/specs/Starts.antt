@@ -4,18 +4,19 @@ use Rattle.pit_units.specs.declared.or_memory.OrMemory.{OrMemory}
 use Rattle.pit_units.specs.declared.or_memory.OrMemory.TheVariants.{Fault, OutOfMemory}
 use Rattle.run_threads.specs.declared.handing_over.NoThread.{NoThread}
 
--- the number of threads that may be started, that were started, that were started as readers, and that were joined, and whether a start
--- was refused
+-- the number of threads that may be started, that were started, that were started as readers, and that were joined, the number of marks
+-- that were sent to valuers to end them, and whether a start was refused
 pub record StartsView : Type 0 where
   pub allowed : ℕ
   pub spent : ℕ
   pub readers : ℕ
   pub joined : ℕ
+  pub marks : ℕ
   pub refused : Bool
 
 -- no thread was started yet
 abbrev pub none_spent : ℕ → StartsView
-none_spent allowed = record { allowed = allowed; spent = 0; readers = 0; joined = 0; refused = false }
+none_spent allowed = record { allowed = allowed; spent = 0; readers = 0; joined = 0; marks = 0; refused = false }
 
 -- `count` threads were started, and no start was refused. `AreSettled` states that each was joined
 abbrev pub AreSpent : ℕ → StartsView → Type 0
@@ -25,10 +26,11 @@ AreSpent count starts = (starts.spent ≡ count) × (starts.refused ≡ false)
 abbrev pub IsInOrder : ℕ → StartsView → Type 0
 IsInOrder valuers starts = starts.readers ≡ starts.spent - valuers
 
--- no more threads were started than allowed, and each was joined
+-- no more threads were started than allowed, a mark was sent to each valuer that was started, and each thread was joined
 pub record AreSettled (old new : StartsView) : Type 0 where
   pub allowed : new.allowed ≡ old.allowed
   pub within : new.spent ≤ old.allowed
+  pub marked : new.marks + new.readers ≡ new.spent
   pub joined : new.joined ≡ new.spent
 
 -- a start was refused before `count` threads were started

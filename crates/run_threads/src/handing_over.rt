@@ -8,7 +8,6 @@ ghost use Rattle.run_threads.specs.inner.Started.{StartsInScope};
 ghost use Rattle.pit_units.specs.declared.or_memory.OrMemory.TheVariants.{Fault};
 ghost use Rattle.plan_parts.specs.declared.ranges.TheConstants.{MAX_CAPACITY, MAX_VALUERS};
 
-use crate::in_scope::giving_up::GaveUp;
 use crate::in_scope::{Settled, hand_over_in};
 use crate::opened::open_lane;
 use crate::read_result::ReadResult;
@@ -56,11 +55,11 @@ pub struct HandedOver {
 #[error("NoThread")]
 pub struct NoThread;
 
-impl From<GaveUp> for OrMemory<NoThread> {
+impl From<NoThread> for OrMemory<NoThread> {
     ghost from_gives = { λ _ error. error ≡ Fault record {} };
 
-    fn from(_gave_up: GaveUp) -> OrMemory<NoThread> {
-        OrMemory::Fault(NoThread)
+    fn from(refused: NoThread) -> OrMemory<NoThread> {
+        OrMemory::Fault(refused)
     }
 }
 
@@ -90,8 +89,8 @@ pub fn hand_over<R: Threads + Wait + Sync, F: Feed + Send + Drop, G: Gate + Sync
     ensures handed { IfOk result (λ made. IsHandedOver F.state plan.now feeds.items
         allowance.valuers allowance.capacity made.0 made.1) }
 
-    // A thread was started for each valuer and each file, or a start was refused, or none was tried. The valuers start first. Each thread
-    // is joined.
+    // A thread was started for each valuer and each file, or a start was refused, or none was tried. The valuers start first. Each valuer
+    // was sent a mark, and each thread is joined.
     ensures spends { StartsThreads allowance.valuers (length feeds.items) starts.old starts.new
         result }
 {

@@ -1,14 +1,14 @@
 //! The threads of a run within a scope, from the first start to the last join.
 
-ghost use Rattle.std.specs.Prelude.{◌≡◌, ◌+◌, vec_len, IfErr, IfOk};
+ghost use Rattle.std.specs.Prelude.{◌≡◌, vec_len, IfOk};
 ghost use Rattle.run_threads.specs.Starts.{none_spent};
 ghost use Rattle.run_threads.specs.inner.Started.{StartsInScope};
 ghost use Rattle.run_threads.specs.HandingOver.{IsHandedOver};
 
-use crate::handing_over::HandedOver;
-use crate::in_scope::giving_up::GaveUp;
+use crate::handing_over::{HandedOver, NoThread};
+use crate::in_scope::giving_up::give_up;
 use crate::in_scope::running::Running;
-use crate::in_scope::settling::{give_up, settle};
+use crate::in_scope::settling::settle;
 use crate::in_scope::starting::{start_readers, start_valuers};
 use crate::opened::OpenedLane;
 use crate::ready::Ready;
@@ -28,7 +28,7 @@ pub mod starting;
 /// The results of the threads of a scope, all of them joined, with the feeds that the readers received, and the remaining thread starts.
 #[derive(Drop)]
 pub struct Settled<F: Feed> {
-    pub handed: Result<(HandedOver, GivenFeeds<F>), GaveUp>,
+    pub handed: Result<(HandedOver, GivenFeeds<F>), NoThread>,
     pub starts: Counted,
 }
 
@@ -42,15 +42,10 @@ pub fn hand_over_in<'s, E, T: Threads, R: Wait + Sync, F: Feed + Send + Drop + '
         ready.entry.shared.plan.now ready.entry.feeds.items ready.entry.lane.closer.takers
         ready.entry.lane.closer.lane.2 made.0 made.1) }
 
-    // One thread was started for each valuer and each file, or a start was refused; the valuers first. Each thread is joined.
+    // One thread was started for each valuer and each file, or a start was refused; the valuers first. Each valuer was sent a mark, and each
+    // thread is joined.
     ensures spends { StartsInScope ready.entry.lane.closer.takers (vec_len ready.entry.feeds)
         starter.entry result.starts result.handed }
-
-    // If a start was refused, each running valuer was sent a Quit through the run's lane, and was joined after that.
-    ensures quits { IfErr result.handed
-        (λ gave_up. (gave_up.quits.lane ≡ ready.entry.lane.closer.lane)
-        × (gave_up.quits.quits + result.starts.readers ≡ result.starts.spent)) }
-    ensures joined { IfErr result.handed (λ gave_up. gave_up.valuers ≡ gave_up.quits.quits) }
 {
     let Ready {
         shared,
@@ -67,15 +62,15 @@ pub fn hand_over_in<'s, E, T: Threads, R: Wait + Sync, F: Feed + Send + Drop + '
     } = lane;
     let valuers = start_valuers(&shared, &mut starter, takes, valuers);
     if valuers.refused {
-        let gave_up = give_up(&mut starter, shared.rt, closer, readers, valuers.handles);
+        give_up(&mut starter, shared.rt, closer, readers, valuers.handles);
         return Settled {
-            handed: Err(gave_up),
+            handed: Err(NoThread),
             starts: starter.end(),
         };
     }
     let readers = start_readers(&shared, &mut starter, feeds, puts, readers);
     if readers.refused {
-        let gave_up = give_up(
+        give_up(
             &mut starter,
             shared.rt,
             closer,
@@ -83,7 +78,7 @@ pub fn hand_over_in<'s, E, T: Threads, R: Wait + Sync, F: Feed + Send + Drop + '
             valuers.handles,
         );
         return Settled {
-            handed: Err(gave_up),
+            handed: Err(NoThread),
             starts: starter.end(),
         };
     }

@@ -1,22 +1,24 @@
-//! Counts the starts and joins of a run's threads. Only this module of the crate starts and joins threads. It passes the runtime to
+//! Counts the starts and joins of a run's threads, and the marks that end its valuers. Only this module of the crate starts and joins
+//! threads. It passes the runtime to
 //! `hand_over`, which opens the scope of a run, and lends it to the code that waits in the threads.
 
-ghost use Rattle.std.specs.Prelude.{◌≡◌, ◌+◌, ◌<◌, ◌≤◌, true, false, is_some, map, IfSome, OnSome};
-ghost use Rattle.lane.specs.Ends.{Lane};
+ghost use Rattle.std.specs.Prelude.{◌≡◌, ℕ, ◌+◌, ◌<◌, ◌≤◌, true, false, is_some, length, map, IfSome, OnSome};
+ghost use Rattle.lane.specs.Ends.{Lane, ArePutsFrom};
 ghost use Rattle.run_threads.specs.Starts.{none_spent};
 ghost use Rattle.plan_parts.specs.PlanFormulas.{formulas_of_plan};
 ghost use Rattle.run_threads.specs.inner.Promises.{KeepsRead, KeepsValued};
-ghost use Rattle.run_threads.specs.inner.Started.{after_start, after_reader, after_join};
+ghost use Rattle.run_threads.specs.inner.Started.{after_start, after_reader, after_marks, after_join, valuers_in, MayMark};
 ghost use Rattle.run_threads.specs.declared.starts.OnThread.{OnThread as AThread};
 
 use crate::file_reading::FileRead;
 use crate::promises::{ReadBy, ReaderHandle, ValuedBy, ValuerHandle};
 use devices::feeds::feed::Feed;
-use lane::{Closer, LaneEnded, PutEnd};
+use lane::{Closer, EndedPut, LaneEnded, PutEnd, Stopped};
 use plan_parts::plan::Plan;
 use std::marker::{Model, PhantomData};
 use std::mem;
 use std::snapshot::Snapshot;
+use std::sync::Wait;
 use std::thread::{Promise, PromisedHandle, Scope, Threads};
 use valuers::{OpenGate, PackedItems, ValuerResult};
 
@@ -84,14 +86,15 @@ impl<'a, R, G> Starts<'a, R, G> {
     }
 }
 
-/// The number of threads that may be started, that were started, that were started as readers, and that were joined, and whether a start was
-/// refused.
+/// The number of threads that may be started, that were started, that were started as readers, and that were joined, the number of marks that
+/// were sent to valuers to end them, and whether a start was refused.
 #[derive(Drop)]
 pub struct Counted {
     allowed: u32,
     spent: u32,
     readers: u32,
     joined: u32,
+    marks: u32,
     refused: bool,
 }
 
@@ -106,6 +109,7 @@ impl Model for Counted {
       spent = s.spent;
       readers = s.readers;
       joined = s.joined;
+      marks = s.marks;
       refused = s.refused;
     } };
 
@@ -122,6 +126,7 @@ impl Counted {
             spent: 0,
             readers: 0,
             joined: 0,
+            marks: 0,
             refused: false,
         }
     }
@@ -145,15 +150,23 @@ pub struct OnThread {
 pub trait OfLane {
     /// The lane of this part.
     ghost lane_of: { Self → Lane };
+
+    /// That this part lets the threads end, if this number of valuers was started.
+    ghost ends: { Self → ℕ → Type 0 };
 }
 
 // The lane is not closed yet.
 impl OfLane for Closer {
     ghost lane_of = { λ closer. closer.lane };
+
+    ghost ends = { λ closer valuers. Unit {0} };
 }
 
+// Each valuer was sent a mark.
 impl OfLane for LaneEnded {
-    ghost lane_of = { λ ended. ended };
+    ghost lane_of = { λ ended. ended.lane };
+
+    ghost ends = { λ ended valuers. valuers ≤ ended.marks };
 }
 
 /// What a thread of a run promises.
@@ -337,10 +350,57 @@ impl<'s, E, T: Threads> Starter<'s, E, T> {
     ) -> A
         requires running { self.old.joined < self.old.spent }
         requires lane { P.lane handle.promise ≡ P.After.lane_of _after.now }
+        requires ends { P.After.ends _after.now (valuers_in self.old) }
         ensures kept { P.kept_by handle.promise result }
         ensures counted { self.new ≡ after_join self.old }
     {
         self.starts.joined += 1;
         handle.join(self.rt)
+    }
+}
+
+impl<'s, E, T> Starter<'s, E, T> {
+    /// Stops the lane after every reader was joined: sends a Stop to each valuer.
+    pub fn stop<R: Wait>(
+        &mut self,
+        rt: &R,
+        closer: Closer,
+        puts: Vec<EndedPut>,
+    ) -> (Stopped, LaneEnded)
+        requires may { MayMark self.old }
+        requires valuers { valuers_in self.old ≡ closer.takers }
+        requires puts { ArePutsFrom closer.lane closer.files 0 puts.items }
+        ensures lane { result.0.lane ≡ closer.lane }
+        ensures takers { result.0.takers ≡ closer.takers }
+        ensures sent { result.0.sent ≡ map (λ put. put.sent) puts.items }
+        ensures files { length result.0.sent ≡ closer.files }
+        ensures ended { result.1 ≡ record { lane = closer.lane; marks = valuers_in self.old } }
+        ensures counted { self.new ≡ after_marks self.old }
+    {
+        let stopped = closer.stop(rt, puts);
+        let ended = LaneEnded::by_stop(&stopped);
+        self.count_marks(&ended);
+        (stopped, ended)
+    }
+
+    /// Gives the lane up after every reader was joined: sends a Quit to each valuer.
+    pub fn quit<R: Wait>(&mut self, rt: &R, closer: Closer) -> LaneEnded
+        requires may { MayMark self.old }
+        requires valuers { valuers_in self.old ≤ closer.takers }
+        ensures ended { result ≡ record { lane = closer.lane; marks = valuers_in self.old } }
+        ensures counted { self.new ≡ after_marks self.old }
+    {
+        let valuers = self.starts.spent - self.starts.readers;
+        let ended = LaneEnded::by_quits(&closer.quit(rt, valuers as u8));
+        self.count_marks(&ended);
+        ended
+    }
+
+    // Counts the marks that were sent into a lane.
+    fn count_marks(&mut self, _ended: &LaneEnded)
+        requires { _ended.now.marks ≡ valuers_in self.old }
+        ensures { self.new ≡ record self.old { marks = _ended.now.marks } }
+    {
+        self.starts.marks = self.starts.spent - self.starts.readers;
     }
 }

@@ -1,5 +1,5 @@
 -- The starts of threads, step by step.
-use Rattle.std.specs.Prelude.{◌≡◌, ℕ, ◌+◌, ◌<◌, ◌≤◌, Bool, true, false, map, vec_len, IsFalse, IsTrue, IfOk, IfErr, Result}
+use Rattle.std.specs.Prelude.{◌≡◌, ℕ, ◌+◌, ◌-◌, ◌<◌, ◌≤◌, Bool, true, false, map, vec_len, IsFalse, IsTrue, IfOk, IfErr, Result}
 use Rattle.std.specs.List.{All}
 use Rattle.std.specs.Global.{Vec}
 use Rattle.lane.specs.Ends.{Lane}
@@ -31,6 +31,19 @@ after_join starts = record starts { joined = starts.joined + 1 }
 -- after `count` joins
 abbrev pub after_joins : ℕ → StartsView → StartsView
 after_joins count starts = record starts { joined = starts.joined + count }
+
+-- how many valuers were started
+abbrev pub valuers_in : StartsView → ℕ
+valuers_in starts = starts.spent - starts.readers
+
+-- after a mark was sent to each valuer that was started
+abbrev pub after_marks : StartsView → StartsView
+after_marks starts = record starts { marks = valuers_in starts }
+
+-- every reader that was started was joined, and no mark was sent yet
+pub record MayMark (starts : StartsView) : Type 0 where
+  pub unmarked : starts.marks ≡ 0
+  pub readers : starts.joined ≡ starts.readers
 
 -- threads started one after the other under one plan, each with one of these ends of the lane, until a start was refused
 pub record AreStarted {H E : Type 0} (end : H → E) (lane : E → Lane) (plan : H → PlanParts) (own : PlanParts)

@@ -3,7 +3,7 @@
 ghost use Rattle.std.specs.Prelude.{◌≡◌, ◌+◌, ◌≤◌, map, vec_len};
 ghost use Rattle.std.specs.List.{All, AllZip, list_any};
 ghost use Rattle.run_threads.specs.inner.Ready.{HasRoom};
-ghost use Rattle.run_threads.specs.inner.Started.{after_joins};
+ghost use Rattle.run_threads.specs.inner.Started.{after_joins, valuers_in};
 
 use crate::file_reading::FileRead;
 use crate::read_result::ReadResult;
@@ -23,6 +23,7 @@ pub fn join_all<'s, E, T: Threads, A: Drop, P: Promise<A> + RunPromise>(
     requires room { HasRoom (vec_len handles) results }
     requires running { starter.old.joined + vec_len handles ≤ starter.old.spent }
     requires lane { All (λ h. P.lane h.promise ≡ P.After.lane_of following.now) handles.items }
+    requires ends { P.After.ends following.now (valuers_in starter.old) }
     ensures kept { AllZip (λ h r. P.kept_by h.promise r) handles.items result.items }
     ensures count { vec_len result ≡ vec_len handles }
     ensures counted { starter.new ≡ after_joins (vec_len handles) starter.old }

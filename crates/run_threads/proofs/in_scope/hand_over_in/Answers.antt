@@ -13,20 +13,20 @@ start_readers-readers-requires-clause-unsent g c κs within =
       unsent = rw lane.puts_are (first_unsent lane.closer.lane 0 lane.closer.files);
     }
 
-pub give_up-gave_up-requires-clause-takes : goal.give_up-gave_up-requires-clause-takes
-give_up-gave_up-requires-clause-takes g c =
+pub give_up-requires-clause-takes : goal.give_up-requires-clause-takes
+give_up-requires-clause-takes g c =
     let lane = c.args.ready.lane in
     c.start_valuers-valuers.ensures.started.lanes lane.closer.lane (rw lane.takes_are (takes_of_lane lane.closer.lane 0 lane.closer.takers))
 
-pub give_up-gave_up-requires-then-readers-clause-puts :
-    goal.give_up-gave_up-requires-then-readers-clause-puts
-give_up-gave_up-requires-then-readers-clause-puts g c =
+pub give_up-requires-then-readers-clause-puts :
+    goal.give_up-requires-then-readers-clause-puts
+give_up-requires-then-readers-clause-puts g c =
     let lane = c.args.ready.lane in
     c.start_readers-readers.ensures.started.lanes lane.closer.lane (rw lane.puts_are (puts_of_lane lane.closer.lane 0 lane.closer.files))
 
-pub give_up-gave_up-requires-then-readers-clause-takes :
-    goal.give_up-gave_up-requires-then-readers-clause-takes
-give_up-gave_up-requires-then-readers-clause-takes g c =
+pub give_up-requires-then-readers-clause-takes :
+    goal.give_up-requires-then-readers-clause-takes
+give_up-requires-then-readers-clause-takes g c =
     let lane = c.args.ready.lane in
     c.start_valuers-valuers.ensures.started.lanes lane.closer.lane (rw lane.takes_are (takes_of_lane lane.closer.lane 0 lane.closer.takers))
 

@@ -1,4 +1,4 @@
-use Rattle.std.proofs.Common.{arith, rules, ◌≡◌, ◌∙◌, All, [], append-nil, map, true, refl, sym, subst}
+use Rattle.std.proofs.Common.{arith, rules, ◌≡◌, ◌∙◌, All, [], append-nil, map, true, refl, sym, ap, subst}
 use Rattle.lane.specs.Ends.{Lane, PutEndView, TakeEndView, first_puts, first_takes}
 use Rattle.lane.specs.MessageKinds.{is_done}
 use Rattle.run_threads.proofs.Joined.{puts_of, read_of, takes_of, done_of, valued_of, full_of, of_given, puts_of_lane, takes_of_lane}
@@ -16,18 +16,16 @@ join_all-values-requires-clause-lane g c =
     let lane = c.args.running.closer.lane in
     let ends = map (λ h. h.promise.end.value) c.args.running.valuers.items in
     let Same : Lane → Type 0 = λ other. All (λ h. h.promise.end.value.lane ≡ other) c.args.running.valuers.items in
-    let ended : c.by_stop.result ≡ lane = c.by_stop.ensures ∙ c.stop-stopped.ensures.lane in
+    let ended : c.stop-stopped.result.1.lane ≡ lane = ap (λ e. e.lane) c.stop-stopped.ensures.ended in
     subst Same (sym ended)
     (of_given (λ (e : TakeEndView). e.lane ≡ lane) (λ h. h.promise.end.value) c.args.running.valuers.items [] (first_takes lane 0 c.args.running.closer.takers)
     (append-nil ends ∙ c.args.running.takes) (takes_of_lane lane 0 c.args.running.closer.takers))
 
-pub stop-stopped-requires : goal.stop-stopped-requires
-stop-stopped-requires g c =
-    record {
-      puts = rw c.split_reads-ended.ensures.ended (puts_of g.F.Feed.state
-          (λ h. h.promise.feed.value) (λ h. h.promise.plan.value) (λ h. h.promise.end.value) c.args.running.plan.value c.args.running.closer.lane c.args.running.closer.files 0 c.args.running.closer.files (omega arith) c.args.running.readers.items c.join_all-reads.result.items
-          c.join_all-reads.ensures.kept c.args.running.ends);
-    }
+pub stop-stopped-requires-clause-puts : goal.stop-stopped-requires-clause-puts
+stop-stopped-requires-clause-puts g c =
+    rw c.split_reads-ended.ensures.ended
+    (puts_of g.F.Feed.state (λ h. h.promise.feed.value) (λ h. h.promise.plan.value) (λ h. h.promise.end.value) c.args.running.plan.value c.args.running.closer.lane c.args.running.closer.files 0 c.args.running.closer.files (omega arith) c.args.running.readers.items c.join_all-reads.result.items
+    c.join_all-reads.ensures.kept c.args.running.ends)
 
 pub gather-gathered-requires-clause-takes : goal.gather-gathered-requires-clause-takes
 gather-gathered-requires-clause-takes g c =
