@@ -19,8 +19,27 @@ limits in this way, and Hochbaum (2008) has the flow of a closure. A certificate
 by the ends of periods: at its prices they are worth what its flows allow, so no other flows give a
 smaller bound by the same prices.
 
-Everything is counted in units: 2^-bits of the finest decimal of the values. Discounts are rounded
-to 64 bits, and products to units, so that the bound never becomes smaller.
+The file is an archive that `numpy.load` reads. Names of arrays begin with `CPIT-` or `PCPSP-`:
+
+- `header`: JSON, as bytes. `bits` defines the unit: 2^-bits of the finest decimal of all values.
+  `bound` is in units. `most` and `least` have the prices of the upper and lower ends of each limit,
+  in 2^-32 units for one of the finest decimal of all coefficients. `arcs` and `later` have the
+  number of flows of each period. `sums` has the SHA-256 of the problem's and the precedence file.
+- `first`: for each block the first period by whose end it is in the pit, or the number of periods.
+- `arcs`, `flows`: flows along arcs, by period. Arcs count from 0, by block, then predecessor.
+- `later`, `later_flows`: flows of blocks to themselves in the next period.
+
+To compute the bound,
+
+1. count a block in a period as the largest, over all destinations, of its value divided by
+   (1 + rate)^t minus its use of each resource times the price there;
+2. subtract what it counts in the next period, which is 0 after the last one;
+3. subtract the flows that leave the block, and add those that come to it, also from and to other
+   periods;
+4. add the numbers above 0 of all blocks and periods, and each limit's upper end times its price;
+   subtract each lower end times its price.
+
+Discounts are rounded to 64 bits, and products to units, so that the bound never becomes smaller.
 """
 from __future__ import annotations
 
