@@ -1,4 +1,4 @@
--- What the ends keep, as they send, join and give away their parts.
+-- What the ends store as they send, join and pass on their parts.
 use Rattle.std.proofs.Common.{◌≡◌, ℕ, ◌+◌, ◌<◌, Bool, true, false, ◌||◌, List, [], ◌∷◌, ◌++◌, length, refl, sym, ap, ◌∙◌, subst, arith, length-append}
 use Rattle.std.proofs.lemmas.List.Folds.{list_any-append}
 use Rattle.plan_parts.specs.declared.block.Block.{Block}

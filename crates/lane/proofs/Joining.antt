@@ -1,4 +1,4 @@
--- How the parts of all ends come back to the closer.
+-- How the parts of all ends return to the closer.
 use Rattle.std.proofs.Common.{◌≡◌, ℕ, ◌+◌, ◌<◌, ◌≤◌, true, List, [], ◌∷◌, ◌++◌, length, map, refl, sym, ap, ◌∙◌, subst, arith, append_assoc, append-nil, length-append, Some, sum_by, All}
 use Rattle.std.specs.List.{AllByRecursion}
 use Rattle.std.proofs.lemmas.List.Sums.{sum_by_push}
@@ -19,7 +19,7 @@ use Rattle.lane.specs.inner.Kept.{IsJoining, IsStopping, IsGathering, IsAllIn}
 use Rattle.lane.proofs.Lists.{all_more}
 use Rattle.lane.proofs.Rules.{part_joins, sents_all, tooks_all, free_parts, ended_view, looked}
 
--- the put parts alone, with no take part behind
+-- the put parts alone, with no take part after them
 puts_alone : (c : ℕ) (sent : List (List Taken)) → put_parts c 0 sent ≡ put_parts c 0 sent ++ take_parts c 0 []
 puts_alone c sent = sym (append-nil (put_parts c 0 sent))
 
@@ -110,7 +110,7 @@ look_empty pass v takers c h x items views l at = absurd (let e = (looked pass v
 pub look_whole : (pass : ℕ) (v : List Part) (takers c : ℕ) → IsAllIn v takers c → Learns IsLane pass v (λ items. IsWhole (gathering_in v))
 look_whole pass v takers c h items views l at = (looked pass v takers c h items views l at).1
 
--- one item less is left of a list that is used up
+-- a list that is used up has one item less
 pub one_less : {A : Type 0} (l r : List A) (x : A) (n m : ℕ) → n ≡ length l → l ≡ x ∷ r → n ≡ m + 1 → m ≡ length r
 one_less l r x n m a e b = let short = ap (λ (k : List _). length k) e in omega arith
 

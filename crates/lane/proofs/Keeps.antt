@@ -136,7 +136,7 @@ module _ (n : Size) (s : State) (h : IsLawful n s) where
     marks = h.marks;
   }
 
-  -- the front leaves: left' says how much of each file left then
+  -- the first message leaves: left' says how much of each file left then
   module _ (w : ℕ) (m : Taken) (rest : List Taken)
       (front : s.queue ≡ m ∷ rest) (below : w < n.takers) (undone : is_done (s.took w) ≡ false) where
     counted : (p : Taken → Bool) → over n.takers (λ v. count_by p (with_at s.took w (s.took w ++ m ∷ []) v))
@@ -146,7 +146,7 @@ module _ (n : Size) (s : State) (h : IsLawful n s) where
         let b = count_more p (s.took w) m in
         omega arith
 
-    -- what the queue loses the taker has
+    -- what the queue loses, the taker gets
     moved : (p : Taken → Bool) → count_by p rest + over n.takers (λ v. count_by p (with_at s.took w (s.took w ++ m ∷ []) v))
         ≡ count_by p s.queue + over n.takers (λ v. count_by p (s.took v))
     moved p =
@@ -213,7 +213,7 @@ module _ (n : Size) (s : State) (h : IsLawful n s) where
         marks = with_at_all (λ v l. MarksLast l) s.took w (s.took w ++ m ∷ []) (marks_more (s.took w) m undone) (λ v _. h.marks v);
       }
 
--- one more leaves: the first k + 1 positions are the first k and position k
+-- one more message leaves: the first k + 1 positions are the first k and position k
 one_more : (p k : ℕ) → cond {A = ℕ} (nat_lt p k) 1 0 + cond (k == p) 1 0 ≡ cond (nat_lt p (k + 1)) 1 0
 one_more p k = grind (arith, nat_tests)
 
@@ -277,7 +277,7 @@ pub keeps_all : (n : Size) (s : State) (es : List Event) → IsLawful n s → Ar
 keeps_all n s [] h a = h
 keeps_all n s (e ∷ es) h a = keeps_all n (after s e) es (keeps n s e h a.0) a.1
 
--- a run goes on by one event
+-- a run continues by one event
 allowed_more : (n : Size) (s : State) (es : List Event) (e : Event) → AreAllowed n s es → Allowed n (after_all s es) e
     → AreAllowed n s (es ++ e ∷ [])
 allowed_more n s [] e a l = (l, tt)

@@ -1,4 +1,4 @@
--- Lists and functions on numbers, with one more element or one other value.
+-- Lists and functions on numbers, with an element appended or a value changed.
 use Rattle.std.proofs.Common.{◌≡◌, ℕ, zero, suc, ◌+◌, ◌<◌, ◌≤◌, Bool, true, false, cond, ◌==◌, List, [], ◌∷◌, ◌++◌, length, drop, slice_get, Some, refl, sym, ap, subst, arith, count_by}
 use Rattle.std.proofs.Common.{⊎_elim}
 use Rattle.std.specs.List.{AllByRecursion}
@@ -16,7 +16,7 @@ module _ {A : Type 0} where
   all_weaker P Q f [] h = tt
   all_weaker P Q f (x ∷ xs) h = (f x h.0, all_weaker P Q f xs h.1)
 
-  -- what holds of all holds at each index, and what holds at each index holds of all
+  -- what is true of all elements is true at each index, and the other way round
   pub all_get : (P : A → Type 0) (xs : List A) (i : ℕ) (x : A) → AllByRecursion P xs → slice_get xs i ≡ Some x → P x
   all_get P [] i x h e = absurd (cc)
   all_get P (y ∷ xs) zero x h e = let q : y ≡ x = cc in subst P q h.0
@@ -36,7 +36,7 @@ module _ {A : Type 0} where
   get_more (y ∷ xs) ys zero x e = e
   get_more (y ∷ xs) ys (suc i) x e = get_more xs ys i x e
 
-  -- what the front of the list without its first k is
+  -- the prefix of the list without its first k elements
   pub drop_front : (xs : List A) (k : ℕ) (x : A) (rest : List A) → drop k xs ≡ x ∷ rest → (slice_get xs k ≡ Some x)
       × (drop (suc k) xs ≡ rest) × (k < length xs)
   drop_front [] zero x rest e = absurd (cc)
@@ -55,7 +55,7 @@ with_at_cases : {A : Type 0} (P : ℕ → A → Type 0) (g : ℕ → A) (k : ℕ
 with_at_cases P g k x here else j true e = subst (λ i. P i x) (sym (eqb-true j k e)) here
 with_at_cases P g k x here else j false e = else j (eqb-false j k e)
 
--- what holds of x at k and of g elsewhere
+-- what is true of x at k and of g elsewhere
 pub with_at_all : {A : Type 0} (P : ℕ → A → Type 0) (g : ℕ → A) (k : ℕ) (x : A) → P k x → ((j : ℕ) → (j ≡ k → ⊥) → P j (g j)) → (j : ℕ)
     → P j (with_at g k x j)
 with_at_all P g k x here else j = with_at_cases P g k x here else j (j == k) refl

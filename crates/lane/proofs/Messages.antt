@@ -1,4 +1,4 @@
--- Lists of messages, with one more message behind.
+-- Lists of messages, with one message appended.
 use Rattle.std.proofs.Common.{◌≡◌, ⊎_elim, ℕ, zero, suc, ◌+◌, ◌<◌, ◌≤◌, Bool, true, false, cond, ◌||◌, List, [], ◌∷◌, ◌++◌, length, map, slice_get, Some, None, refl, sym, ap, ◌∙◌, subst, arith, count_by, append-nil}
 use Rattle.std.specs.List.{AllByRecursion}
 use Rattle.std.specs.List.Sorted.{IsStrictlyIncreasing}
@@ -72,7 +72,7 @@ ended_from f k (Row g p c ∷ ms) h e = (h.0, h.1, ended_from f (k + 1) ms h.2 e
 ended_from f k (End g n ∷ ms) h e = h
 ended_from f k (_ ∷ ms) h e = absurd h
 
--- what stands at a place of a file's list, and that an end mark stands last
+-- which message is at a position of a file's list, and that an end mark is last
 pub from_place : (f k : ℕ) (ms : List Taken) (i : ℕ) (m : Taken) → IsFrom f k ms → slice_get ms i ≡ Some m → (is_of f m ≡ true)
     × (position m ≡ k + i) × (is_end m ≡ true → length ms ≡ suc i)
 from_place f k [] i m h e = absurd (cc)
@@ -127,7 +127,7 @@ pub counted_none : (b : Bool) (n : ℕ) → cond {A = ℕ} b 1 0 + n ≡ 0 → (
 counted_none true n e = absurd (omega arith)
 counted_none false n e = (refl, omega arith)
 
--- where no Stop stands, whatever comes behind is fine
+-- if there is no Stop, anything may follow
 pub stops_none : (ms : List Taken) (m : Taken) → count_by is_stop ms ≡ 0 → StopsLast (ms ++ m ∷ [])
 stops_none [] m e = ((λ _. tt), tt)
 stops_none (x ∷ ms) m e = let c = counted_none (is_stop x) (count_by is_stop ms)
@@ -137,7 +137,7 @@ pub stops_more : (ms : List Taken) → StopsLast ms → StopsLast (ms ++ Stop �
 stops_more [] h = ((λ _. tt), tt)
 stops_more (x ∷ ms) h = ((λ t. all_more (λ m. is_stop m ≡ true) ms Stop (h.0 t) refl), stops_more ms h.1)
 
--- where a mark is last, a taker is done just where its last message is one
+-- if a mark is last, a taker is done exactly if its last message is a mark
 pub done_is_last : (ms : List Taken) → MarksLast ms → is_done ms ≡ ends_in_mark ms
 done_is_last [] h = refl
 done_is_last (m ∷ []) h = or-false (is_mark m)

@@ -1,4 +1,4 @@
--- How an opened lane is given away, part by part, and the ends that are made, handed to threads and given back.
+-- How an opened lane is given away, part by part, and how the ends are made, passed to threads and given back.
 use Rattle.std.proofs.Common.{◌≡◌, ℕ, zero, suc, ◌+◌, ◌-◌, ◌<◌, List, [], ◌∷◌, ◌++◌, Some, replicate, length, refl, sym, ap, ◌∙◌, subst, arith, get_or, Option, None, IfSome, option_to_list, All, length-append}
 use Rattle.lane.specs.declared.part.Part.{Part}
 use Rattle.lane.specs.declared.part.Part.TheVariants.{Put, Take, Close}
@@ -11,7 +11,7 @@ use Rattle.lane.proofs.Seats.{all_joined}
 use Rattle.lane.proofs.Rules.{gives, free_parts}
 use Rattle.std.proofs.lemmas.List.Elements.{All-nil, All-cons}
 
--- the first part that is left
+-- the first part that remains
 one_left : (f k : ℕ) → k < f → f - k ≡ suc (f - (k + 1))
 one_left f k l = omega arith
 
@@ -44,7 +44,7 @@ take_given f w c k l =
           (λ j y le. λ (x : Some (Taker j) ≡ Some (Taker k)). let z : j ≡ k = cc in let bad : ⊥ = omega arith in bad),
     )
 
--- the ends that are made are those of the lane, so many, and one more
+-- the ends that are made with numbers from k on are ends of the lane, n in all, and the next one is appended
 pub ends_are : {E : Type 0} (lane_of : E → Lane) (number : E → ℕ) (lane : Lane) (make : ℕ → E) (k n all : ℕ)
     → ((i : ℕ) → lane_of (make i) ≡ lane) → ((i : ℕ) → number (make i) ≡ i) → k + n ≡ all
     → AreEndsFrom lane_of number lane all k (ends_from make k n)
@@ -78,7 +78,7 @@ module _ {E : Type 0} where
         (λ i d e b. f (suc i) d e (omega arith)) h.2,
   )
 
-  -- the last of one end is that end
+  -- the last of a list of one end is that end
   pub last_end : (P : E → Type 0) (first : E) (items rest : List E) (o : Option E) → items ≡ rest ++ option_to_list o
       → items ≡ first ∷ [] → P first → IfSome o P
   last_end P first items rest None e h p = tt

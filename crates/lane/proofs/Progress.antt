@@ -1,4 +1,4 @@
--- The threads of a run never all wait, and they make only so many steps.
+-- The threads of a run never all wait, and the number of their steps is bounded.
 use Rattle.std.proofs.Common.{◌≡◌, ◌≢◌, ⊎_elim, ◌⊎◌, inl, inr, ℕ, zero, suc, ◌+◌, ◌-◌, ◌<◌, ◌≤◌, Bool, true, false, cond, ◌||◌, List, [], ◌∷◌, ◌++◌, length, refl, sym, ap, ◌∙◌, subst, arith, count_by, length-append}
 use Rattle.std.proofs.lemmas.Bool.{cases_Bool, cases_lt, cases_eq, true≢false}
 use Rattle.std.proofs.lemmas.List.Folds.{list_any-append}
@@ -37,7 +37,7 @@ over_reaches (suc n) v g l h =
     (λ (q : v ≤ n). let r = over_reaches n v g q h in let goal : v ≤ over n g + g n = omega arith in goal)
     (cases_lt n v)
 
--- a sum of ones and noughts, which are all nought from v on
+-- a sum of ones and zeros, which are all zero from v on
 over_few : (n v : ℕ) (g : ℕ → ℕ) → ((k : ℕ) → g k ≤ 1) → ((k : ℕ) → v ≤ k → g k ≡ 0) → (over n g ≤ n) × (over n g ≤ v)
 over_few zero v g ones none = (omega arith, omega arith)
 over_few (suc n) v g ones none =
@@ -57,7 +57,7 @@ over_fewer n v g w below within z ones none =
     (with_at_all (λ k x. v ≤ k → x ≡ 0) g w 1 (λ l. absurd (omega arith)) (λ k _. none k)) in
     omega (arith, r.1, over_at (λ (x : ℕ). x) n g w 1 (omega arith))
 
--- the marks in a list: none if it is not done, and otherwise one, which is last
+-- the marks in a list: none if it is not done, otherwise one, which is last
 mark_count : List Taken → ℕ
 mark_count ms = count_by is_stop ms + count_by is_quit ms
 
@@ -82,7 +82,7 @@ one_mark (Stop ∷ ms) h = subst (λ l. mark_count (Stop ∷ l) ≤ 1) (sym (h.0
 one_mark (Quit ∷ ms) h = subst (λ l. mark_count (Quit ∷ l) ≤ 1) (sym (h.0 refl)) (omega arith)
 one_mark (m ∷ ms) h = omega (arith, count_front is_stop m ms, count_front is_quit m ms, one_mark ms h.1)
 
--- a test holds of all numbers below n, or fails of one
+-- a test is true of all numbers below n, or false of one
 all_or_one : (n : ℕ) (b : ℕ → Bool) → ((k : ℕ) → k < n → b k ≡ true) ⊎ ((k : ℕ) × (k < n) × (b k ≡ false))
 all_or_one zero b = inl (λ k l. absurd (omega arith))
 all_or_one (suc n) b =
@@ -128,7 +128,7 @@ module _ (n : Size) (t : Threads) (s : State) (are : AreThreads n t) (h : IsLawf
             (λ v. one_mark (s.took v) (h.marks v)) (λ v l. ap mark_count (u.idle v l) ∙ no_mark [] refl),
       )
 
-  -- some valuer takes the queue's front, unless all have taken a mark
+  -- some valuer takes the queue's first message, unless all have taken a mark
   takes : s.queue ≢ [] → CanContinue n t s ⊎ ((w : ℕ) → w < t.valuers → is_done (s.took w) ≡ true)
   takes some =
       ⊎_elim (λ (all : (w : ℕ) → w < t.valuers → is_done (s.took w) ≡ true). inr all)
@@ -204,7 +204,7 @@ module _ (n : Size) (t : Threads) (s : State) (are : AreThreads n t) (h : IsLawf
 pub some_thread_can_continue : SomeThreadCanContinue
 some_thread_can_continue n t s are h u = some_continues n t s are h u
 
--- a file with one more message
+-- a file with one message appended
 module _ (t : Threads) (s : State) (f : ℕ) (m : Taken) (below : f < t.readers) where
   puts_less : puts_left t (put f m s) f + 1 ≡ puts_left t s f → steps_left t (put f m s) + 1 ≡ steps_left t s
   puts_less less =
@@ -289,7 +289,7 @@ stays_underway n t s PutQuit u next allowed = record {
 }
 stays_underway n t s (TakeNext w) u next allowed = take_underway t s w s.queue u next.0
 
--- along the steps of the threads
+-- during the steps of the threads
 steps_end : (n : Size) (t : Threads) (s : State) (es : List Event) → AreThreads n t → IsLawful n s → IsUnderway t s → AreSteps n t s es
     → (length es + steps_left t (after_all s es) ≡ steps_left t s) × (HaveFinished t (after_all s es) ⊎ CanContinue n t (after_all s es))
 steps_end n t s [] are h u a = (omega arith, some_continues n t s are h u)

@@ -1,4 +1,4 @@
--- Each move of the passes keeps the rule of the lane.
+-- Each step of the passes keeps the rule of the lane.
 use Rattle.std.proofs.Common.{◌≡◌, ⊎_elim, inl, inr, ℕ, zero, suc, ◌+◌, ◌<◌, ◌≤◌, true, List, [], ◌∷◌, ◌++◌, length, set, slice_get, Some, None, refl, sym, ap, ◌∙◌, subst, arith, append_assoc}
 use Rattle.std.specs.List.{AllByRecursion}
 use Rattle.std.proofs.lemmas.Bool.{cases_eq}
@@ -156,7 +156,7 @@ look_finds_nothing n s items views pass files takers c sent took h at full =
       whole n s h.lawful sent took a b d sent_is took_is full.done e c,
     )
 
--- the look of a lane that is done finds nothing, and tells that it is whole
+-- the look of a lane that is done finds nothing, and shows that the lane is complete
 pub looked : (pass : ℕ) (v : List Part) (takers c : ℕ) → IsAllIn v takers c
     → Learns IsLane pass v (λ items. (items ≡ []) × IsWhole (gathering_in v))
 looked pass v takers c all items views h at =
@@ -187,7 +187,7 @@ parts_more : (part : ℕ → List Taken → Part) (k : ℕ) (lists : List (List 
 parts_more part k [] l n s = ap (λ i. part i l ∷ []) (let z : k ≡ n = omega arith in z)
 parts_more part k (x ∷ lists) l n s = ap (λ v. part k x ∷ v) (parts_more part (k + 1) lists l n (omega arith))
 
--- one more part joins the closer's
+-- one more part joins the closer's parts
 pub part_joins : (part : ℕ → List Taken → Part) (v : List Part) (lists : List (List Taken)) (l : List Taken)
     → (v ++ parts_from part 0 lists) ++ part (length lists) l ∷ [] ≡ v ++ parts_from part 0 (lists ++ l ∷ [])
 part_joins part v lists l =

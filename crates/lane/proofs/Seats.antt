@@ -1,4 +1,4 @@
--- Which pass has which part, as the parts change and move.
+-- Which pass has which part, while parts change and move.
 use Rattle.std.proofs.Common.{◌≡◌, ◌≢◌, ◌⊎◌, ⊎_elim, inl, inr, ℕ, zero, suc, ◌+◌, ◌<◌, Bool, cond, ◌==◌, replicate, List, [], ◌∷◌, ◌++◌, length, set, slice_get, Some, refl, sym, ap, ◌∙◌, subst, arith}
 use Rattle.std.specs.List.{AllByRecursion}
 use Rattle.std.proofs.lemmas.Bool.{cases_eq, eq-eqb, ne_eqb}
@@ -13,7 +13,7 @@ use Rattle.lane.specs.Machine.{Size, State, opening}
 use Rattle.lane.specs.Rule.{Role, Putter, Taker, Closer, same_role, IsRole, part_of, role_of, Has, IsSeated, AreSeated, parts_from, put_parts, take_parts, all_parts}
 use Rattle.lane.specs.Steps.{IsFree}
 
--- a part that stands in a view has what holds of all of them
+-- a part in a view has the property that all of them have
 pub at_part : (P : Part → Type 0) (part : Part) (v : List Part) → Has part v → AllByRecursion P v → P part
 at_part P part [] h all = absurd h
 at_part P part (x ∷ v) h all = ⊎_elim (λ (e : part ≡ x). subst P (sym e) all.0) (λ (in' : Has part v). at_part P part v in' all.1) h
@@ -30,7 +30,7 @@ pub all_joined : (P : Part → Type 0) (v u : List Part) → AllByRecursion P v 
 all_joined P [] u h k = k
 all_joined P (x ∷ v) u h k = (h.0, all_joined P v u h.1 k)
 
--- the part of a list, and what holds of the parts of lists in which nothing is yet
+-- the part of a list, and what is true of the parts of empty lists
 pub has_part : (part : ℕ → List Taken → Part) (k : ℕ) (lists : List (List Taken)) (i j : ℕ) (l : List Taken) → i + k ≡ j
     → slice_get lists i ≡ Some l → Has (part j l) (parts_from part k lists)
 has_part part k [] i j l s e = absurd (cc)
@@ -47,13 +47,13 @@ new_list zero i l = absurd (omega arith)
 new_list (suc n) zero l = refl
 new_list (suc n) (suc i) l = new_list n i (omega arith)
 
--- index of something within the list
+-- the index of an element is within the list
 pub at_within : {A : Type 0} (l : List A) (i : ℕ) (a : A) → get_elem? l i ≡ some a → i < length l
 at_within [] i a e = absurd (some-ne-none a (sym e))
 at_within (x ∷ l) zero a e = omega arith
 at_within (x ∷ l) (suc i) a e = omega (arith, at_within l i a e)
 
--- what holds of each element at its index still does where one changes, and where one more comes
+-- what is true of each element at its index stays true if one changes or one is appended
 pub every_set : {A : Type 0} (P : ℕ → A → Type 0) (l : List A) (i : ℕ) (a : A) → P i a
     → ((j : ℕ) (b : A) → (j ≡ i → ⊥) → get_elem? l j ≡ some b → P j b) → (j : ℕ) (b : A) → get_elem? (set l i a) j ≡ some b → P j b
 every_set P l i a here else j b e =
@@ -67,7 +67,7 @@ every_more P [] a new old (suc j) b e = absurd (some-ne-none b (sym e))
 every_more P (x ∷ l) a new old zero b e = old 0 b e
 every_more P (x ∷ l) a new old (suc j) b e = every_more (λ k. P (suc k)) l a new (λ k c. old (suc k) c) j b e
 
--- what holds of the element at an index, where one changes
+-- what is true of the element at an index, if one element changes
 some_set : {A : Type 0} (P Q : A → Type 0) (l : List A) (i : ℕ) (a b : A) → get_elem? l i ≡ some a → (P a → Q b) → (j : ℕ)
     → ((j ≡ i → ⊥) → (c : A) → P c → Q c) → (c : A) × (get_elem? l j ≡ some c) × P c
     → (c : A) × (get_elem? (set l i b) j ≡ some c) × Q c
@@ -90,14 +90,14 @@ role_of_part n s Closer = refl
 pub one_role : (n m : Size) (s t : State) (r q : Role) → part_of n s r ≡ part_of m t q → r ≡ q
 one_role n m s t r q e = let x : Some r ≡ Some q = sym (role_of_part n s r) ∙ (ap role_of e ∙ role_of_part m t q) in cc
 
--- a seated part of a role is what the state has of it
+-- a seated part of a role is as the state specifies it
 pub seated_as : (n : Size) (s : State) (seat : Role → ℕ) (pass : ℕ) (part : Part) (role : Role) → IsSeated n s seat pass part
     → role_of part ≡ Some role → IsRole n role × (part ≡ part_of n s role) × (seat role ≡ pass)
 seated_as n s seat pass part role h named =
     let name : h.0 ≡ role = let x : Some h.0 ≡ Some role = sym (role_of_part n s h.0) ∙ (sym (ap role_of h.2) ∙ named) in cc in
     (subst (IsRole n) name h.1, h.2 ∙ ap (part_of n s) name, ap seat (sym name) ∙ h.3)
 
--- a view stays seated where the part of each role that stands in it stays, and its seat moves with it
+-- a view stays seated if the part of each role in it stays, and its seat moves with it
 still : (n : Size) (s t : State) (seat new : Role → ℕ) (pass pass' : ℕ) (v : List Part)
     → ((r : Role) → seat r ≡ pass → Has (part_of n s r) v → (part_of n t r ≡ part_of n s r) × (new r ≡ pass'))
     → AllByRecursion (IsSeated n s seat pass) v → AllByRecursion (IsSeated n t new pass') v
@@ -111,7 +111,7 @@ free_of : (n : Size) (s : State) (role r : Role) (v : List Part) → IsFree role
 free_of n s role r v f stands e =
     at_part (λ x. role_of x ≡ Some role → ⊥) (part_of n s r) v stands f (role_of_part n s r ∙ ap (λ (a : Role). Some a) e)
 
--- a role's part changes where it stands, and no other part does
+-- the part of one role changes, and no other part does
 pub changed : (n : Size) (s t : State) (seat : Role → ℕ) (views : List (List Part)) (pass : ℕ) (role : Role) (rest : List Part)
     → AreSeated n s seat views → get_elem? views pass ≡ some (part_of n s role ∷ rest) → IsRole n role → IsFree role rest
     → ((r : Role) → (r ≡ role → ⊥) → part_of n t r ≡ part_of n s r)
@@ -136,7 +136,7 @@ changed n s t seat views pass role rest h at is free same =
         (λ (in' : Has (part_of n s r) rest). inr (subst (λ p. Has p rest) (sym (same r (free_of n s role r rest free in'))) in'))
         q
 
--- a number for the role, and another one for every other role
+-- one number for the role, and another for every other role
 either : {P : Type 0} → Dec P → ℕ → ℕ → ℕ
 either (yes p) new old = new
 either (no ne) new old = old

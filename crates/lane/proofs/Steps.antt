@@ -30,7 +30,7 @@ taken_is_prefix n s h f = record {
   placed = h.placed;
 }
 
--- a put part, a take part and the closer's in a view are as the state has them
+-- a put part, a take part and the closer's part in a view are as the state specifies them
 pub put_is : (n : Size) (s : State) (seat : Role → ℕ) (pass f c : ℕ) (ms : List Taken) → IsSeated n s seat pass (Put f c ms) → (f < n.files)
     × (c ≡ n.capacity) × (ms ≡ s.sent f)
 put_is n s seat pass f c ms h =
@@ -53,7 +53,7 @@ close_is n s seat pass f w c x y h =
     let a : f ≡ n.files = cc in let b : w ≡ n.takers = cc in let d : c ≡ n.capacity = cc in let i : x ≡ s.stops =
     cc in let j : y ≡ s.quits = cc in (a, b, d, i, j)
 
--- an event that changes one role's part: the lane is at the state after it
+-- an event that changes the part of one role: the lane is in the state after it
 moves : (n : Size) (s t : State) (e : Event) (items items' : List Taken) (views : List (List Part))
     (pass : ℕ) (role : Role) (old new : Part) (rest : List Part)
     → IsLaneAt n s items views → get_elem? views pass ≡ some (old ∷ rest) → old ≡ part_of n s role → IsRole n role → IsFree role rest
@@ -73,7 +73,7 @@ moves n s t e items items' views pass role old new rest h at old_is is free allo
           (subst (λ p. AreSeated n t h.seat (set views pass (p ∷ rest))) (sym new_is) seated);
     }
 
--- the other parts stay where a file sends or a taker takes
+-- the other parts stay if a file sends or a taker takes
 put_same : (n : Size) (s : State) (f : ℕ) (m : Taken) (r : Role) → (r ≡ Putter f → ⊥) → part_of n (put f m s) r ≡ part_of n s r
 put_same n s f m (Putter g) ne =
     ap (λ l. Put g n.capacity l) (with_at_else s.sent f (s.sent f ++ m ∷ []) g (λ e. ne (ap (λ k. Putter k) e)))
@@ -123,7 +123,7 @@ put_event n s items views pass f c ms v (End g k) h at free room q =
     (allowed, put_moves n s (PutEnd g) items views pass f c ms v (End g k) h at free p allowed (λ i. put (q.0 i) (End g (rows i)) s))
 put_event n s items views pass f c ms v _ h at free room q = absurd q
 
--- all files have ended, where the view has their ended parts
+-- all files have ended if the view has their ended parts
 all_ended : (n : Size) (s : State) (seat : Role → ℕ) (pass files : ℕ) (v : List Part) → AllByRecursion (IsSeated n s seat pass) v
     → HasEnded files v → (f : ℕ) → f < files → has_end (s.sent f) ≡ true
 all_ended n s seat pass files v seated ended f l =

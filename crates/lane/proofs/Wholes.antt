@@ -1,5 +1,5 @@
--- What a lawful lane tells: what one taker took is in order, and once all Stops were put and every taker is done, what was handed over is
--- whole.
+-- What follows from a lawful lane: what one taker took is in order. Once all Stops were put and every taker is done, the messages gathered
+-- are complete.
 use Rattle.std.proofs.Common.{◌≡◌, ⊎_elim, ℕ, zero, suc, ◌+◌, ◌<◌, ◌≤◌, Bool, true, cond, List, [], ◌∷◌, length, take, drop, get_or, slice_get, Some, None, refl, sym, ap, ◌∙◌, subst, arith, count_by, sum_by, length-drop, All, false, map}
 use Rattle.std.specs.List.{AllByRecursion}
 use Rattle.std.proofs.lemmas.Bool.{cases_lt, lt-ltb, false≢true, true≢false, eq-eqb}
@@ -35,7 +35,7 @@ none_between : (n k : ℕ) (ms : List Taken) → AllByRecursion (λ p. n < p) (m
 none_between n k [] a b l = refl
 none_between n k (m ∷ ms) a b l = absurd (let x = a.0 in let y = b.0 in let z : ⊥ = omega arith in z)
 
--- where all stand at their places and rise, nothing follows an end mark
+-- if all rows are at their positions and rise, nothing follows an end mark
 ends_close : (sent : ℕ → List Taken) (left : ℕ → ℕ) → ((f : ℕ) → IsFrom f 0 (sent f)) → ((f : ℕ) → left f ≤ length (sent f))
     → (ms : List Taken) → AllByRecursion (IsPlaced sent left) ms → Rises ms → EndsClose ms
 ends_close sent left lists within [] h r = tt
@@ -69,7 +69,7 @@ sum_front F took lists h (suc n) l =
     ap (sum_by F) (take-suc lists n [] (omega arith))
     ∙ (sum_by_push F (take n lists) (get_or lists n []) ∙ (λ i. sum_front F took lists h n (omega arith) i + F (is i)))
 
--- a done taker that took no Quit took a Stop, and that is its last
+-- a done taker that took no Quit took a Stop, which is its last message
 ends_in_stop : (ms : List Taken) → is_done ms ≡ true → count_by is_quit ms ≡ 0 → MarksLast ms → EndsInStop ms
 ends_in_stop [] d q m = absurd (false≢true d)
 ends_in_stop (Stop ∷ ms) d q m = m.0 refl
@@ -87,7 +87,7 @@ no_stops_left [] h c = refl
 no_stops_left (m ∷ ms) h c =
     absurd (true≢false (sym h.0 ∙ (counted_none (is_stop m) (count_by is_stop ms) (sym (count_front is_stop m ms) ∙ c)).0))
 
--- all Stops were put, and the lists are those of the lane's files and takers, who are all done
+-- all Stops were put, and these are the lists of the lane's files and takers, who are all done
 module _ (n : Size) (s : State) (h : IsLawful n s) (sent took : List (List Taken))
     (files : length sent ≡ n.files) (takers : length took ≡ n.takers) (some' : 0 < n.takers)
     (sent_is : (f : ℕ) (l : List Taken) → slice_get sent f ≡ Some l → l ≡ s.sent f)

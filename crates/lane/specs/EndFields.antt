@@ -1,4 +1,4 @@
--- How the ends of a lane are seen: by the end of the channel and the pass that they have.
+-- How contracts see the ends of a lane: by the end of the channel and the pass that they have.
 use Rattle.std.specs.Prelude.{ℕ, ◌+◌, List, [], ◌∷◌}
 use Rattle.atomic_table.specs.declared.badge.Badge.{Badge}
 use Rattle.crossbeam_channel.specs.declared.flavors.array.Doing.{Doing}
@@ -12,7 +12,7 @@ use Rattle.lane.specs.declared.part.Part.TheVariants.{Put, Take, Close}
 use Rattle.lane.specs.Ends.{Lane, PutEndView, TakeEndView, CloserView, GivenUpView, EndedView, StoppedView}
 use Rattle.lane.specs.Whole.{GatheredView}
 
--- what the first part of a view knows: its list, and the Quits or all marks that the closer put
+-- what the first part of a view knows: its list, and the number of Quits, or of all marks, that the closer put
 abbrev pub sent_in : List Part → List Taken
 sent_in (Put file capacity sent ∷ v) = sent
 sent_in _ = []
@@ -53,11 +53,11 @@ pub record SeatView : Type 0 where
   pub lane : Lane
   pub known : List Part
 
--- how many messages the lane's queue has room for
+-- the capacity of the lane's queue, in messages
 abbrev pub room_of : SeatView → ℕ
 room_of s = s.lane.2
 
--- the lane of a channel: it is as long as the channel
+-- the lane of a channel, whose capacity is the channel's
 abbrev pub lane_at : {Q M L A : Type 0} → Rows (Badge (Key Taken)) (Doing Taken (List Part)) Q M (Key Taken) L A → Lane
 lane_at c = (c.stamps.shared.table_id, c.stamps.shared.key, ruled_capacity c)
 
@@ -65,7 +65,7 @@ lane_at c = (c.stamps.shared.table_id, c.stamps.shared.key, ruled_capacity c)
 abbrev pub seated : {Q M L A : Type 0} → Rows (Badge (Key Taken)) (Doing Taken (List Part)) Q M (Key Taken) L A → Pass Taken (List Part) → SeatView
 seated c p = record { lane = lane_at c; known = view p }
 
--- the ends of a lane, by what they have of the channel
+-- the ends of a lane, by their ends of the channel
 abbrev pub put_end_view : SeatView → ℕ → PutEndView
 put_end_view s file = record { lane = s.lane; file = file; sent = sent_in s.known }
 
@@ -84,6 +84,6 @@ ended_view s = record { lane = s.lane; marks = marks_in s.known }
 abbrev pub stopped_view : SeatView → ℕ → StoppedView
 stopped_view s takers = record { lane = s.lane; takers = takers; sent = sent_lists s.known }
 
--- what was gathered, by what the pass of all parts knows
+-- the gathered messages, by what the pass with all parts knows
 abbrev pub gathered_view : Pass Taken (List Part) → GatheredView
 gathered_view p = gathering_in (view p)

@@ -6,17 +6,17 @@ use Rattle.atomic_table.specs.Seated.{TableId}
 use Rattle.crossbeam_channel.specs.declared.flavors.array.Key.{Key}
 use Rattle.lane.specs.declared.message.Taken.{Taken}
 
--- which lane: its channel, and the channel's capacity
+-- a lane: its channel, and the channel's capacity
 abbrev pub Lane : Type 0
 Lane = TableId × Badge (Key Taken) × ℕ
 
--- a put end: its lane, its file, and what it sent so far
+-- a put end: its lane, its file, and what it has sent
 pub record PutEndView : Type 0 where
   pub lane : Lane
   pub file : ℕ
   pub sent : List Taken
 
--- a take end: its lane, its number, and what it took so far
+-- a take end: its lane, its number, and what it has taken
 pub record TakeEndView : Type 0 where
   pub lane : Lane
   pub taker : ℕ
@@ -28,7 +28,7 @@ pub record CloserView : Type 0 where
   pub files : ℕ
   pub takers : ℕ
 
--- a lane that was given up, and for how many takers a Quit was put
+-- a lane that was given up, and the number of takers for which a Quit was put
 pub record GivenUpView : Type 0 where
   pub lane : Lane
   pub quits : ℕ
@@ -57,31 +57,31 @@ ArePutsFrom lane files k ps = AreEndsFrom (λ p. p.lane) (λ p. p.file) lane fil
 abbrev pub AreTakesFrom : Lane → ℕ → ℕ → List TakeEndView → Type 0
 AreTakesFrom lane takers k ts = AreEndsFrom (λ t. t.lane) (λ t. t.taker) lane takers k ts
 
--- the ends that are made for n numbers from k on
+-- the n ends that are made, with numbers from k on
 abbrev pub ends_from : {E : Type 0} → (ℕ → E) → ℕ → ℕ → List E
 ends_from make k zero = []
 ends_from make k (suc n) = make k ∷ ends_from make (k + 1) n
 
--- n put ends of the lane that sent nothing yet, of the files from number k on
+-- n put ends of the lane that have sent nothing, of the files from number k on
 abbrev pub first_puts : Lane → ℕ → ℕ → List PutEndView
 first_puts lane k n = ends_from (λ file. record { lane = lane; file = file; sent = [] }) k n
 
--- n take ends of the lane that took nothing yet, of the takers from number k on
+-- n take ends of the lane that have taken nothing, of the takers from number k on
 abbrev pub first_takes : Lane → ℕ → ℕ → List TakeEndView
 first_takes lane k n = ends_from (λ taker. record { lane = lane; taker = taker; took = [] }) k n
 
--- a lane that was opened for so many files and valuers, and for so many messages: its closer, its put ends and its take ends
+-- a lane that was opened for this number of files and valuers, and with this capacity: its closer, its put ends and its take ends
 pub record IsOpened (all_files valuers room : ℕ) (closer : CloserView) (put_ends : Vec PutEndView) (take_ends : Vec TakeEndView) : Type 0 where
   -- the closer knows the lane's size
   pub files : closer.files ≡ all_files
   pub takers : closer.takers ≡ valuers
   pub capacity : closer.lane.2 ≡ room
-  -- the put ends, one a file, in order
+  -- one put end for each file, in order
   pub puts : ArePutsFrom closer.lane all_files 0 put_ends.items
   pub first_puts : put_ends.items ≡ first_puts closer.lane 0 all_files
   pub put_count : length put_ends.items ≡ all_files
   pub put_len : vec_len put_ends ≡ all_files
-  -- the take ends, one a valuer, in order
+  -- one take end for each valuer, in order
   pub takes : AreTakesFrom closer.lane valuers 0 take_ends.items
   pub first_takes : take_ends.items ≡ first_takes closer.lane 0 valuers
   pub take_count : length take_ends.items ≡ valuers

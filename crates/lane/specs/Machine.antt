@@ -1,5 +1,5 @@
--- The lane as a machine: its states, its events, where each event is allowed and what it does. There are no threads in it: a run
--- of threads is some sequence of these events.
+-- The lane as a machine: its states, its events, when each event is allowed and what it does. It has no threads: a run of threads is some
+-- sequence of these events.
 use Rattle.std.specs.Prelude.{◌≡◌, ◌≢◌, ℕ, ◌+◌, ◌<◌, cond, true, false, ◌==◌, List, [], ◌∷◌, ◌++◌, length}
 use Rattle.plan_parts.specs.declared.block.Block.{Block}
 use Rattle.lane.specs.declared.message.Taken.{Taken}
@@ -7,7 +7,7 @@ use Rattle.lane.specs.declared.message.Taken.TheVariants.{Row, End, Stop, Quit}
 use Rattle.lane.specs.MessageKinds.{has_end, is_done, row_count}
 use Rattle.plan_parts.specs.declared.ranges.TheConstants.{MAX_ROWS}
 
--- the number of files and of takers, and how many messages the queue has room for
+-- the numbers of files and takers, and the capacity of the queue in messages
 pub record Size : Type 0 where
   pub files : ℕ
   pub takers : ℕ
@@ -33,11 +33,11 @@ pub data Event : Type 0 where
   PutQuit : Event
   TakeNext : (taker : ℕ) → Event
 
--- a place of the queue is free
+-- the queue is not full
 abbrev pub HasRoom : Size → State → Type 0
 HasRoom n s = length s.queue < n.capacity
 
--- where an event is allowed
+-- when an event is allowed
 abbrev pub Allowed : Size → State → Event → Type 0
 Allowed n s (PutRow file block) = (file < n.files) × HasRoom n s × (has_end (s.sent file) ≡ false) × (row_count (s.sent file) < MAX_ROWS)
 Allowed n s (PutEnd file) = (file < n.files) × HasRoom n s × (has_end (s.sent file) ≡ false)
@@ -45,19 +45,19 @@ Allowed n s PutStop = HasRoom n s × ((file : ℕ) → file < n.files → has_en
 Allowed n s PutQuit = HasRoom n s × (s.stops ≡ 0) × (s.quits < n.takers)
 Allowed n s (TakeNext taker) = (taker < n.takers) × (s.queue ≢ []) × (is_done (s.took taker) ≡ false)
 
--- g, but x at k
+-- g, except x at k
 abbrev pub with_at : {A : Type 0} → (ℕ → A) → ℕ → A → ℕ → A
 with_at g k x j = cond (j == k) x (g j)
 
--- the message goes to the file's list and to the queue's back
+-- the message is appended to the file's list and to the queue
 abbrev pub put : ℕ → Taken → State → State
 put file m s = record { queue = s.queue ++ m ∷ []; sent = with_at s.sent file (s.sent file ++ m ∷ []); stops = s.stops; quits = s.quits; took = s.took }
 
--- the front m moves to the end of the taker's list, and the queue is what was behind it
+-- the first message m moves to the end of the taker's list, and the remainder is the queue
 abbrev pub take_front : ℕ → Taken → List Taken → State → State
 take_front taker m rest s = record { queue = rest; sent = s.sent; stops = s.stops; quits = s.quits; took = with_at s.took taker (s.took taker ++ m ∷ []) }
 
--- a take of the front, if there is one
+-- takes the first message, if there is one
 abbrev pub take_next : ℕ → List Taken → State → State
 take_next taker [] s = s
 take_next taker (m ∷ rest) s = take_front taker m rest s
@@ -75,11 +75,11 @@ abbrev pub after_all : State → List Event → State
 after_all s [] = s
 after_all s (e ∷ es) = after_all (after s e) es
 
--- each event of the sequence is allowed where it comes
+-- each event of the sequence is allowed when it comes
 abbrev pub AreAllowed : Size → State → List Event → Type 0
 AreAllowed n s [] = Unit {0}
 AreAllowed n s (e ∷ es) = Allowed n s e × AreAllowed n (after s e) es
 
--- a state that the machine comes to from the opening state
+-- a state that the machine reaches from the opening state
 abbrev pub IsReached : Size → State → Type 0
 IsReached n s = (events : List Event) × AreAllowed n opening events × (after_all opening events ≡ s)

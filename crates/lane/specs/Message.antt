@@ -6,7 +6,7 @@ use Rattle.plan_parts.specs.declared.block.Block.{Block}
 use Rattle.lane.specs.declared.message.Taken.{Taken}
 use Rattle.lane.specs.declared.message.Taken.TheVariants.{Row, End, Stop, Quit}
 
--- whether a message belongs to the file. Stop and Quit belong to no file
+-- whether a message belongs to the file; Stop and Quit belong to no file
 abbrev pub is_of : ℕ → Taken → Bool
 is_of file (Row f place block) = f == file
 is_of file (End f rows) = f == file
@@ -17,14 +17,14 @@ is_of file Quit = false
 abbrev pub of : ℕ → List Taken → List Taken
 of file ms = filter (is_of file) ms
 
--- the position of a message in its file's list: the place of a row; for an end mark, the number of rows before it
+-- the position of a message in its file's list: for a row its place, for an end mark the number of rows before it
 abbrev pub position : Taken → ℕ
 position (Row f place block) = place
 position (End f rows) = rows
 position Stop = 0
 position Quit = 0
 
--- whether it is the file's message of that position
+-- whether it is the file's message at that position
 abbrev pub is_at : ℕ → ℕ → Taken → Bool
 is_at file p m = is_of file m && (position m == p)
 

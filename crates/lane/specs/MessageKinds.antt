@@ -1,4 +1,4 @@
--- Kinds of messages, and how many of them a list has.
+-- Kinds of messages, and how many of each kind a list has.
 use Rattle.std.specs.Prelude.{ℕ, Bool, true, false, ◌||◌, List, [], ◌∷◌}
 use Rattle.std.specs.List.{count_by, list_any}
 use Rattle.lane.specs.declared.message.Taken.{Taken}
@@ -40,7 +40,7 @@ row_count ms = count_by is_row ms
 abbrev pub has_end : List Taken → Bool
 has_end ms = list_any is_end ms
 
--- whether a taker that took these is done: it took Stop or Quit
+-- whether a taker that took these messages is done: it took Stop or Quit
 abbrev pub is_done : List Taken → Bool
 is_done ms = list_any is_mark ms
 

@@ -1,4 +1,4 @@
--- Orders that lists of messages keep between any two steps.
+-- Orders of messages that are true between any two steps.
 use Rattle.std.specs.Prelude.{◌≡◌, ℕ, ◌+◌, true, List, [], ◌∷◌}
 use Rattle.std.specs.List.{AllByRecursion}
 use Rattle.lane.specs.declared.message.Taken.{Taken}
@@ -27,11 +27,11 @@ abbrev pub MarksLast : List Taken → Type 0
 MarksLast [] = Unit {0}
 MarksLast (m ∷ ms) = (is_mark m ≡ true → ms ≡ []) × MarksLast ms
 
--- nothing but Stops
+-- only Stops
 abbrev pub AreStops : List Taken → Type 0
 AreStops ms = AllByRecursion (λ m. is_stop m ≡ true) ms
 
--- behind a Stop there are only Stops
+-- after a Stop there are only Stops
 abbrev pub StopsLast : List Taken → Type 0
 StopsLast [] = Unit {0}
 StopsLast (m ∷ ms) = (is_stop m ≡ true → AreStops ms) × StopsLast ms

@@ -9,7 +9,7 @@ use Rattle.lane.specs.declared.part.Part.TheVariants.{Count, Put, Take, Close}
 use Rattle.lane.specs.Machine.{Size, State, IsReached}
 use Rattle.lane.specs.Lawful.{IsLawful}
 
--- whose part it is
+-- who has the part
 pub data Role : Type 0 where
   Putter : (file : ℕ) → Role
   Taker : (taker : ℕ) → Role
@@ -22,7 +22,8 @@ IsRole n (Putter file) = file < n.files
 IsRole n (Taker taker) = taker < n.takers
 IsRole n Closer = Unit {0}
 
--- the part of a role: a put part has what its file sent, a take part what its taker took, the closer part the Stops and Quits put
+-- the part of a role: a put part has what its file sent, a take part what its taker took, the closer's part the numbers of Stops and Quits
+-- put
 abbrev pub part_of : Size → State → Role → Part
 part_of n s (Putter file) = Put file n.capacity (s.sent file)
 part_of n s (Taker taker) = Take taker n.capacity (s.took taker)
@@ -34,22 +35,22 @@ role_of (Put file capacity sent) = Some (Putter file)
 role_of (Take taker capacity took) = Some (Taker taker)
 role_of (Close files takers capacity stops quits) = Some Closer
 
--- the part stands in the view
+-- the part is in the view
 abbrev pub Has : Part → List Part → Type 0
 Has part [] = ⊥
 Has part (x ∷ v) = (part ≡ x) ⊎ Has part v
 
--- the part is that of a role whose seat is this pass
+-- the part is of a role whose seat is this pass
 abbrev pub IsSeated : Size → State → (Role → ℕ) → ℕ → Part → Type 0
 IsSeated n s seat pass part = (role : Role) × IsRole n role × (part ≡ part_of n s role) × (seat role ≡ pass)
 
--- every part stands at least once in the view of its seat, and in no other, and there is nothing else in the views
+-- every part is at least once in the view of its seat, and in no other, and the views have nothing else
 pub record AreSeated (n : Size) (s : State) (seat : Role → ℕ) (views : List (List Part)) : Type 0 where
   pub only : (pass : ℕ) (v : List Part) → get_elem? views pass ≡ some v → AllByRecursion (IsSeated n s seat pass) v
   pub stands : (role : Role) → IsRole n role → (v : List Part) × (get_elem? views (seat role) ≡ some v) × Has (part_of n s role) v
 
--- the lane is at the state s of its machine: a run of allowed events leads there, it is lawful, its queue is what the channel holds,
--- and the views have its lists and numbers
+-- the lane is in the state s of its machine: a run of allowed events leads to it, it is lawful, its queue is what the channel holds, and
+-- the views have its lists and numbers
 pub record IsLaneAt (n : Size) (s : State) (items : List Taken) (views : List (List Part)) : Type 0 where
   pub reached : IsReached n s
   pub lawful : IsLawful n s
@@ -57,7 +58,7 @@ pub record IsLaneAt (n : Size) (s : State) (items : List Taken) (views : List (L
   pub seat : Role → ℕ
   pub seated : AreSeated n s seat views
 
--- the lane is not open yet: the first pass counts its files, takers and capacity, and nothing was put
+-- the lane is not open yet: the first pass counts its files, its takers and its capacity, and nothing was put
 pub record IsCounting (items : List Taken) (views : List (List Part)) : Type 0 where
   pub nothing : items ≡ []
   pub files : ℕ

@@ -1,4 +1,4 @@
--- The steps of the code: what a send or a receive does to the view of its pass, and which sends and receives the ends make.
+-- The steps of the code: how a send or a receive changes the view of its pass, and which sends and receives the ends make.
 use Rattle.std.specs.Prelude.{◌≡◌, ℕ, ◌+◌, ◌<◌, true, false, cond, List, [], ◌∷◌, ◌++◌, length, Some}
 use Rattle.std.specs.List.{AllByRecursion}
 use Rattle.lane.specs.declared.message.Taken.{Taken}
@@ -16,7 +16,7 @@ more_part (Put file capacity sent) m = Put file capacity (sent ++ m ∷ [])
 more_part (Take taker capacity took) m = Take taker capacity (took ++ m ∷ [])
 more_part (Close files takers capacity stops quits) m = Close files takers capacity (stops + cond (is_stop m) 1 0) (quits + cond (is_quit m) 1 0)
 
--- the view after it, whose first part sends or takes
+-- the view after its first part sent or took the message
 abbrev pub with_message : List Part → Taken → List Part
 with_message [] m = []
 with_message (part ∷ v) m = more_part part m ∷ v
@@ -43,7 +43,7 @@ CloseSends files takers stops quits v (End f rows) = ⊥
 CloseSends files takers stops quits v Stop = HasEnded files v × (quits ≡ 0) × (stops < takers)
 CloseSends files takers stops quits v Quit = (stops ≡ 0) × (quits < takers)
 
--- what the ends of a lane of this capacity send
+-- what the ends of a lane with this capacity send
 abbrev pub MaySend : ℕ → List Part → Taken → Type 0
 MaySend n [] m = ⊥
 MaySend n (Count files takers capacity ∷ v) m = ⊥

@@ -6,13 +6,13 @@ use Rattle.lane.specs.MessageKinds.{has_end, is_done, row_count}
 use Rattle.lane.specs.Machine.{Size, State, Event, PutRow, PutEnd, PutStop, PutQuit, TakeNext, Allowed, after}
 use Rattle.lane.specs.Lawful.{over}
 
--- how the closer ends the valuers: by Stops, or by Quits if some thread of the run was refused
+-- how the closer ends the valuers: by Stops, or by Quits if the start of a thread was refused
 pub data Closing : Type 0 where
   ByStops : Closing
   ByQuits : Closing
 
--- the threads that run: the readers of the files with numbers below `readers`, the valuers with numbers below `valuers`, and the closer.
--- Each reader puts a row for each of its blocks, in order, and then its end mark
+-- the threads that run: the readers of the files with numbers below `readers`, the valuers with numbers below `valuers`, and the closer;
+-- each reader puts a row for each of its blocks, in order, and then its end mark
 pub record Threads : Type 0 where
   pub readers : ℕ
   pub valuers : ℕ
@@ -37,8 +37,8 @@ HaveEnded t s = (file : ℕ) → file < t.readers → has_end (s.sent file) ≡ 
 abbrev pub marks : State → ℕ
 marks s = s.stops + s.quits
 
--- the event is what some thread does next, as soon as the lane allows it: a reader puts its next row, or the end mark if it has none; the
--- closer, once every reader has ended, puts a mark for each valuer; a valuer takes until it took a mark
+-- the event is the next that some thread makes, as soon as the lane allows it: a reader puts its next row, or the end mark if it has none;
+-- the closer, once every reader has ended, puts a mark for each valuer; a valuer takes until it has taken a mark
 abbrev pub IsNext : Threads → State → Event → Type 0
 IsNext t s (PutRow file block) = (file < t.readers) × (has_end (s.sent file) ≡ false) × (slice_get (t.blocks file) (row_count (s.sent file)) ≡ Some block)
 IsNext t s (PutEnd file) = (file < t.readers) × (has_end (s.sent file) ≡ false) × (row_count (s.sent file) ≡ length (t.blocks file))
@@ -46,23 +46,23 @@ IsNext t s PutStop = (t.closing ≡ ByStops) × HaveEnded t s × (marks s < t.va
 IsNext t s PutQuit = (t.closing ≡ ByQuits) × HaveEnded t s × (marks s < t.valuers)
 IsNext t s (TakeNext taker) = (taker < t.valuers) × (is_done (s.took taker) ≡ false)
 
--- some thread can continue: what it does next is allowed
+-- some thread can continue: its next event is allowed
 abbrev pub CanContinue : Size → Threads → State → Type 0
 CanContinue n t s = (e : Event) × IsNext t s e × Allowed n s e
 
--- each event of the sequence is what some thread does next, and is allowed, where it comes
+-- each event of the sequence is the next of some thread, and is allowed when it comes
 abbrev pub AreSteps : Size → Threads → State → List Event → Type 0
 AreSteps n t s [] = Unit {0}
 AreSteps n t s (e ∷ es) = IsNext t s e × Allowed n s e × AreSteps n t (after s e) es
 
--- every thread has finished: each reader put its end mark, the closer put a mark for each valuer, and each valuer took one
+-- every thread has finished: each reader has put its end mark, the closer has put a mark for each valuer, and each valuer has taken one
 pub record HaveFinished (t : Threads) (s : State) : Type 0 where
   pub read : HaveEnded t s
   pub closed : marks s ≡ t.valuers
   pub valued : (taker : ℕ) → taker < t.valuers → is_done (s.took taker) ≡ true
 
--- the lane is where its threads can bring it: no reader put more rows than it has blocks, a taker without a thread took nothing, and the
--- closer put marks of its kind, at most one for each valuer, and only once every reader had ended
+-- the lane is in a state to which its threads can bring it: no reader put more rows than it has blocks, a taker without a thread took
+-- nothing, and the closer put marks of its kind, at most one for each valuer, and only once every reader had ended
 pub record IsUnderway (t : Threads) (s : State) : Type 0 where
   pub put : (file : ℕ) → file < t.readers → row_count (s.sent file) ≤ length (t.blocks file)
   pub idle : (taker : ℕ) → t.valuers ≤ taker → s.took taker ≡ []
@@ -71,14 +71,14 @@ pub record IsUnderway (t : Threads) (s : State) : Type 0 where
   pub few : marks s ≤ t.valuers
   pub ended : 0 < marks s → HaveEnded t s
 
--- what the file's reader has yet to put
+-- what the file's reader must still put
 abbrev pub puts_left : Threads → State → ℕ → ℕ
 puts_left t s file = (length (t.blocks file) - row_count (s.sent file)) + cond (has_end (s.sent file)) 0 1
 
--- how many steps are left: two for each message that is yet to be put, and one for each that is yet to be taken
+-- the number of steps that remain: two for each message that must still be put, and one for each that must still be taken
 abbrev pub steps_left : Threads → State → ℕ
 steps_left t s = 2 * (over t.readers (λ file. puts_left t s file) + (t.valuers - marks s)) + length s.queue
 
--- how many steps the threads make at most: each row, each end mark and each valuer's mark is put once and taken once
+-- the largest number of steps of the threads: each row, each end mark and each valuer's mark is put once and taken once
 abbrev pub all_steps : Threads → ℕ
 all_steps t = 2 * (over t.readers (λ file. length (t.blocks file) + 1) + t.valuers)

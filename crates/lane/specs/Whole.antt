@@ -5,7 +5,7 @@ use Rattle.lane.specs.declared.message.Taken.{Taken}
 use Rattle.lane.specs.declared.message.Taken.TheVariants.{Row, End, Stop, Quit}
 use Rattle.lane.specs.Message.{is_at, IsEndedFrom, Rises, EndsInStop}
 
--- the number of messages that the queue could hold, the messages that each file sent, and those that each taker took
+-- the capacity of the queue in messages, the messages that each file sent, and the messages that each taker took
 pub record GatheredView : Type 0 where
   pub capacity : ℕ
   pub sent : List (List Taken)
@@ -26,9 +26,9 @@ IsSent sent Quit = Unit {0}
 pub record IsWhole (g : GatheredView) : Type 0 where
   -- each file sent rows with places 0, 1, 2, .., and then its end mark with their number
   pub sents : (file : ℕ) (list : List Taken) → slice_get g.sent file ≡ Some list → IsEndedFrom file 0 list
-  -- each position of each of these lists was taken by exactly one taker, once
+  -- each position of each of these lists was taken exactly once, by one taker
   pub once : (file p : ℕ) (list : List Taken) → slice_get g.sent file ≡ Some list → p < length list → sum_by (λ took. count_by (is_at file p) took) g.took ≡ 1
-  -- nothing was taken except what was sent, unchanged, and one Stop for each taker, last
+  -- only what was sent was taken, unchanged, and one Stop for each taker, last
   pub only : All (λ took. All (IsSent g.sent) took) g.took
   pub stops : All EndsInStop g.took
   -- in each taker's list, the positions of each file rise

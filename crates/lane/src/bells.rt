@@ -1,27 +1,31 @@
-//! Where the threads of a lane wait, and what wakes them. No contract says that a sleeper is woken: this is code to be read.
+//! Where the threads of a lane wait, and what wakes them. No contract states that a sleeper is woken: you must read
+//! this code.
 //!
-//! A bell is one word: how many threads wait, how many of them were called and have not left, and how often it rang. A thread that
-//! waits counts itself and reads the rings in one step; looks at the queue once more; sleeps, if it found nothing, while no ring has
-//! come since; and leaves. A ring comes after a message was put or taken. It calls one thread that waits and was not called, and wakes
-//! one that sleeps. If all that wait were called it does nothing.
+//! A bell is one word: how many threads wait, how many of them were called and have not left, and how often the bell
+//! rang. A thread that waits first counts itself and reads the number of rings, in one step. Then it looks at the queue
+//! once more. If it found nothing, it sleeps unless the bell has rung since. Then it leaves. A ring comes after a
+//! message was put or taken. It calls one thread that waits and was not called, and wakes a sleeper. If all waiting
+//! threads were called it does nothing.
 //!
-//! No wake is lost. Take a thread that sleeps while what it waits for is there. That came after its last look, and so after it was
-//! counted. The ring behind it found the thread counted.
+//! No wake is lost. Take a thread that sleeps although what it waits for is there. The message or the free position
+//! came after the thread's last look, so after the thread was counted. The ring after it found the thread counted.
 //!
-//! - If the ring called a thread before this one slept, the rings were others than this one had read, and it did not sleep.
-//! - If it called a thread while this one slept, it woke a sleeper, this one or another, which looks and takes what is there.
-//! - If it called none, all that wait were called. Each call stands for a thread that is awake and leaves before it sleeps, or for a
-//!   sleeper whose wake is under way: for a ring adds a call and a wake, and ends each wait that does not sleep yet; and a thread that
-//!   leaves takes a call with it, if there is one. So this sleeper is woken.
+//! - If the ring called a thread before this one slept, the number of rings was no longer the one that this thread had
+//!   read, so it did not sleep.
+//! - If the ring called a thread while this one slept, it woke a sleeper, this one or another, which looks and takes
+//!   what is there.
+//! - If the ring called no thread, all waiting threads were called. Each call belongs to a thread that is awake and
+//!   leaves before it sleeps, or to a sleeper that is being woken: a ring adds a call and a wake, and ends each wait
+//!   that does not sleep yet, and a thread that leaves takes a call with it, if there is one. So this sleeper is woken.
 //!
-//! A look fails only if the queue was full, or empty, at one moment of it: so the contract of the channel says. A bell rings once a
-//! message at most, fewer than 2^32 times, so its rings do not come round.
+//! By the channel's contract a look fails only if the queue was full, or empty, at one moment of it. A bell rings at
+//! most once for each message, fewer than 2^32 times, so the number of rings never overflows.
 
 use std::alloc::{AllocError, Global};
 use std::sync::atomic::{AtomicU64, Ordering};
 use std::sync::{Arc, Wait};
 
-// One thread that waits, one that was called, and one ring, as the word counts them: 16 bits, 16 bits and 32 bits.
+// One waiting thread, one called thread and one ring, as the word counts them: 16 bits, 16 bits and 32 bits.
 const WAITER: u64 = 1 << 48;
 
 const CALL: u64 = 1 << 32;
@@ -46,7 +50,7 @@ impl Bells {
     }
 }
 
-/// The threads that wait for one side of the lane to act.
+/// The threads that wait for the other side of the lane.
 #[derive(Drop)]
 pub(crate) struct Bell {
     word: AtomicU64,
@@ -59,17 +63,17 @@ impl Bell {
         }
     }
 
-    /// Counts this thread as one that waits, and returns the rings so far.
+    /// Counts this thread as waiting, and returns the number of rings.
     pub(crate) fn listen(&self) -> u32 {
         (self.word.fetch_add(WAITER, Ordering::SeqCst) & 0xffff_ffff) as u32
     }
 
-    /// Sleeps while the rings are those that were heard. It may also return for no reason.
+    /// Sleeps unless the number of rings differs from the given one. It may also return for no reason.
     pub(crate) fn sleep<R: Wait>(&self, rt: &R, heard: u32) {
         self.word.park(rt, heard);
     }
 
-    /// Counts this thread no more.
+    /// Stops counting this thread.
     pub(crate) fn leave(&self) {
         let _left = self.word.fetch_update(
             Ordering::SeqCst,
@@ -98,7 +102,7 @@ fn called(word: u64) -> u64 {
     word >> 32 & 0xffff
 }
 
-// The word after a ring, unless all that wait were called.
+// Returns the word after a ring, or the same word if all waiting threads were called.
 fn rung(word: u64) -> Option<u64> {
     if called(word) < waiting(word) {
         Some(word.wrapping_add(CALL + RING))
@@ -107,7 +111,7 @@ fn rung(word: u64) -> Option<u64> {
     }
 }
 
-// The word once a thread has left, with one call if there is one.
+// Returns the word after a thread has left, with one call less if there is one.
 fn left(word: u64) -> u64 {
     let calls = if called(word) == 0 { 0 } else { CALL };
     word.wrapping_sub(WAITER + calls)

@@ -1,4 +1,4 @@
-//! The closer of a lane, which stops it once every file has ended, or gives it up.
+//! The closer of a lane. It stops the lane once every file has ended, or gives it up.
 
 ghost use Rattle.std.specs.Prelude.{◌≡◌, ◌<◌, ◌≤◌, true, [], ◌∷◌, length, map};
 ghost use Rattle.std.specs.List.{All, sum_by};
@@ -39,7 +39,7 @@ impl Model for Closer {
 }
 
 impl Closer {
-    // The closer of a lane whose other parts were given away.
+    // Creates the closer of a lane whose other parts were given away.
     pub(crate) fn new(seat: SeatedSender, receiver: Receiver, files: u8, takers: u8) -> Closer
         requires channel { IsChannelOf seat.lane (receives_on receiver) }
         requires part { seat.known ≡ Part.Close files takers (room_of seat) 0 0 ∷ [] }
@@ -54,7 +54,7 @@ impl Closer {
         }
     }
 
-    /// The sender and the pass by which it stops the lane.
+    /// The sender and the pass with which it stops the lane.
     pub fn seat(&self) -> &SeatedSender
         ensures { self.now ≡ closer_view result.now self.now.files self.now.takers }
     {
@@ -85,8 +85,8 @@ impl Closer {
         }
     }
 
-    /// Sends `n` Quit marks, each of which ends one valuer, and gives the lane up. It is for a run that was refused a
-    /// thread.
+    /// Sends `n` Quit marks, each of which ends one valuer, and gives the lane up. A run does so if the start of a
+    /// thread was refused.
     pub fn quit<R: Wait>(self, rt: &R, n: u8) -> GivenUp
         requires few { n ≤ self.takers }
         ensures lane { result.lane ≡ self.lane }
@@ -118,7 +118,7 @@ impl Model for GivenUp {
 }
 
 impl GivenUp {
-    /// The sender and the pass by which it gave the lane up.
+    /// The sender and the pass with which it gave the lane up.
     pub fn seat(&self) -> &SeatedSender
         ensures seen { self.now ≡ given_up_view result.now }
         ensures marks { marks_in result.now.known ≡ self.now.quits }
@@ -127,7 +127,7 @@ impl GivenUp {
     }
 }
 
-// The parts of the ended puts join the closer's. Answers the number of their rows.
+// Joins the parts of the ended puts to the closer's. Returns the number of their rows.
 fn join_puts(seat: &mut SeatedSender, files: u8, takers: u8, puts: Vec<EndedPut>) -> u64
     requires part { seat.old.known ≡ Part.Close files takers (room_of seat.old) 0 0 ∷ [] }
     requires puts { ArePutsFrom seat.old.lane files 0 puts.items }
@@ -189,7 +189,7 @@ impl Model for Stopped {
 }
 
 impl Stopped {
-    /// The sender and the pass by which it stopped the lane.
+    /// The sender and the pass with which it stopped the lane.
     pub fn seat(&self) -> &SeatedSender
         ensures seen { self.now ≡ stopped_view result.now self.now.takers }
         ensures marks { marks_in result.now.known ≡ self.now.takers }
@@ -197,10 +197,10 @@ impl Stopped {
         &self.seat
     }
 
-    /// Gathers what the lane handed over, which is whole.
+    /// Gathers the messages that passed the lane, which are complete.
     ///
-    /// `takes` are the take ends of all valuers of this lane, in order, and each of them is done. So no other end of
-    /// the lane is left, and the one look that this call takes at the channel finds it empty.
+    /// `takes` are the take ends of all valuers of this lane, in order, and each of them is done. So the lane has no
+    /// other end, and the one look of this call at the channel finds it empty.
     pub fn gather<R: Wait>(self, rt: &R, takes: Vec<TakeEnd>) -> Gathered
         requires takes { AreTakesFrom self.lane self.takers 0 takes.items }
         requires done { All (λ take. is_done take.took ≡ true) takes.items }
@@ -222,7 +222,7 @@ impl Stopped {
     }
 }
 
-// The parts of the take ends join the closer's.
+// Joins the parts of the take ends to the closer's.
 fn join_takes(seat: &mut SeatedSender, takers: u8, takes: Vec<TakeEnd>)
     requires stopped { IsStopping seat.old.known takers (room_of seat.old) }
     requires takes { AreTakesFrom seat.old.lane takers 0 takes.items }

@@ -1,4 +1,4 @@
-//! What a lane handed over.
+//! The messages that passed a lane.
 
 ghost use Rattle.std.specs.Prelude.{◌≡◌};
 ghost use Rattle.std.specs.List.{sum_by};

@@ -1,5 +1,5 @@
-//! Laws of the lane, for every size, every sequence of events and every state: their functions do nothing, and their contracts
-//! are what is proved.
+//! Laws of the lane, for every size, every sequence of events and every state. Their functions do nothing; their
+//! contracts are what is proved.
 
 ghost use Rattle.std.specs.Prelude.{List};
 ghost use Rattle.lane.specs.declared.part.Part.{Part};
@@ -24,15 +24,15 @@ pub fn runs_stay_lawful()
 
 /// Of the messages that a file sent, the first ones have left the queue, and the queue has the others, in order.
 ///
-/// - `runs`: so it is along every run of the machine, the messages that left in the order of leaving.
-/// - `states`: so it is in every lawful state. Each message that left was taken once, as it was sent.
+/// - `runs`: this is true in every run of the machine, of the messages that left in the order of leaving.
+/// - `states`: this is true in every lawful state. Each message that left was taken once, as it was sent.
 pub fn what_left_is_a_prefix()
     ensures runs { LeftIsPrefixOfSent }
     ensures states { TakenIsPrefixOfSent }
 {}
 
-/// Each kind of step of the code is one event of the machine, allowed in the state in which it comes; or it is no
-/// event, and leaves the state as it is.
+/// Each kind of step of the code is one event of the machine, allowed in the state in which it comes, or no event: then
+/// it leaves the state unchanged.
 pub fn steps_are_events()
     ensures make { MakeIsTheOpening }
     ensures split { SplitIsNoEvent }
@@ -46,7 +46,7 @@ pub fn steps_are_events()
 /// every reader has ended, puts a mark for each valuer; a valuer takes until it has taken a mark.
 ///
 /// - `states`: in every lawful state to which they can bring the lane, all have finished, or some thread can continue.
-/// - `steps`: each step leaves one step fewer.
+/// - `steps`: each step reduces the number of steps that remain by one.
 /// - `runs`: so from the opening state, however their steps interleave, they make a bounded number of steps, and some
 ///   thread can continue until all have finished.
 pub fn the_lane_never_gets_stuck()

@@ -1,5 +1,5 @@
-//! The lane: put ends hand rows and end marks to take ends over one bounded channel. Whatever the schedule, each message leaves
-//! once, the messages of a file in order, and what is gathered at the end is whole.
+//! The lane: put ends pass rows and end marks to take ends through one bounded channel. Whatever the schedule, each
+//! message leaves once, the messages of a file in order, and the messages gathered at the end are complete.
 #![tactic(auto)]
 
 mod bells;

@@ -1,4 +1,4 @@
-//! What goes through the lane.
+//! The messages of the lane.
 
 use plan_parts::block::Block;
 

@@ -1,4 +1,5 @@
-//! How a lane is opened: the first pass counts its files, takers and places, then has all parts, and gives each end its own.
+//! How a lane is opened: the first pass counts its files, its takers and its capacity, then has all parts, and gives
+//! each end its own.
 
 ghost use Rattle.std.specs.Prelude.{◌≡◌, ◌≤◌, [], ◌∷◌, IfOk, OnOk};
 ghost use Rattle.crossbeam_channel.specs.Ends.{receives_on};
@@ -20,8 +21,8 @@ use crate::take_end::TakeEnd;
 use crossbeam_channel::bounded_with;
 use std::alloc::{AllocError, Global};
 
-/// Opens a lane: its closer, a put end for each file and a take end for each valuer, in order. Its queue has room for
-/// `capacity` messages. Fails only where memory is refused; no other call of the lane takes memory.
+/// Opens a lane: its closer, a put end for each file and a take end for each valuer, in order. The capacity of its
+/// queue is `capacity` messages. Fails only if memory is refused; no other call of the lane allocates.
 pub fn open(
     alloc: Global,
     files: u8,

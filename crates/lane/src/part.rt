@@ -1,11 +1,11 @@
-//! What the channel's passes know. No value of it is made: it exists in proofs alone.
+//! What the channel's passes know. No value of this type is made: it exists only in proofs.
 
 use crate::message::Taken;
 use std::collections::LinkedList;
 
-/// A part of the lane. Each part stands in the view of exactly one pass.
+/// A part of the lane. Each part is in the view of exactly one pass.
 pub enum Part {
-    /// The lane is still being counted: so many files, takers and places in the queue.
+    /// The lane is still being counted: its files, its takers and the capacity of its queue.
     Count {
         files: u8,
         takers: u8,
@@ -23,7 +23,7 @@ pub enum Part {
         capacity: usize,
         took: LinkedList<Taken>,
     },
-    /// The closer part: the lane's numbers, and how many Stops and Quits were put.
+    /// The closer's part: the lane's numbers, and the numbers of Stops and Quits put.
     Close {
         files: u8,
         takers: u8,

@@ -15,7 +15,7 @@ use plan_parts::block::Block;
 use std::marker::Model;
 use std::sync::Wait;
 
-/// The put end of one file. Contracts see its lane, its file and the list of what it sent, which are rows alone.
+/// The put end of one file. Contracts see its lane, its file and the list of what it sent, which has only rows.
 #[derive(Drop)]
 pub struct PutEnd {
     seat: SeatedSender,
@@ -32,7 +32,7 @@ impl Model for PutEnd {
 }
 
 impl PutEnd {
-    // A put end that sent nothing yet.
+    // Creates a put end that has sent nothing.
     pub(crate) fn new(seat: SeatedSender, file: u8) -> PutEnd
         requires part { seat.known ≡ Part.Put file (room_of seat) [] ∷ [] }
         ensures value { result ≡ record { lane = seat.lane; file = file; sent = [] } }
@@ -44,7 +44,8 @@ impl PutEnd {
         }
     }
 
-    /// Sends the block as the file's next row: its place is the number of rows sent before. At most 1,000,000 rows may be sent.
+    /// Sends the block as the file's next row, whose place is the number of rows sent before. At most 1,000,000 rows
+    /// may be sent.
     pub fn row<R: Wait>(&mut self, rt: &R, block: Block)
         requires few { length self.old.sent < MAX_ROWS }
         ensures sent { self.new ≡ record self.old
@@ -59,7 +60,7 @@ impl PutEnd {
         self.rows += 1;
     }
 
-    /// The sender and the pass by which it sends.
+    /// The sender and the pass with which it sends.
     pub fn seat(&self) -> &SeatedSender
         ensures { self.now ≡ put_end_view result.now self.now.file }
     {
@@ -109,7 +110,7 @@ impl Model for EndedPut {
 }
 
 impl EndedPut {
-    // Hands the end's part to the closer, and answers the number of rows.
+    // Passes the end's part to the closer, and returns the number of rows.
     pub(crate) fn join(self, closer: &mut SeatedSender) -> u32
         requires closer { IsClosers closer.old.known }
         requires lane { self.lane ≡ closer.old.lane }

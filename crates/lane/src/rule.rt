@@ -1,4 +1,5 @@
-//! The channel of a lane and its rule: what the channel holds and what its passes know is always a state of the lane machine.
+//! The channel of a lane and its rule: what the channel holds and what its passes know is always a state of the lane
+//! machine.
 
 use crate::message::Taken;
 use crate::part::Part;
@@ -7,7 +8,7 @@ use crossbeam_channel::{Pass, RuledReceiver, RuledSender};
 use std::alloc::Global;
 use std::collections::LinkedList;
 
-/// What a pass knows: the parts that it has.
+/// What a pass knows: its parts.
 pub type Parts = LinkedList<Part>;
 
 /// The rule of the channel.
@@ -20,7 +21,7 @@ impl Protocol<Taken, Parts> for Rule {
 
     ghost holds = { IsLane };
 
-    // A first view is one constant for every lane, so it begins with a count of no files, no takers and no places.
+    // A first view is one constant for every lane, so it begins with a count of no files, no takers and no capacity.
     ghost first = { Count 0 0 0 ∷ [] };
 }
 
@@ -64,7 +65,7 @@ impl Lesson<Taken, Parts> for Receives {
     ghost fact = { λ v items. ⊤ };
 }
 
-/// The look of a lane that is done: it takes no message, and learns that the lane is whole.
+/// The look at a lane that is done: it takes no message, and learns that the lane is complete.
 pub struct Looks;
 
 impl Outcome<Taken, Parts> for Looks {
@@ -102,7 +103,7 @@ impl Split<Parts> for CountsTaker {
     ghost right = { λ v. [] };
 }
 
-/// One more place is counted.
+/// One more message of capacity is counted.
 pub struct CountsPlace;
 
 impl Split<Parts> for CountsPlace {
@@ -126,7 +127,7 @@ impl Split<Parts> for Opens {
     ghost right = { λ v. [] };
 }
 
-/// The part behind the closer's moves to a new pass.
+/// The part after the closer's moves to a new pass.
 pub struct Gives;
 
 impl Split<Parts> for Gives {

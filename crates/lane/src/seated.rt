@@ -1,6 +1,6 @@
-//! An end of the lane's channel with the pass that it shows, and what the two do together: one send, one receive, and the steps
-//! in which parts are made, handed on and joined. A send or receive is tried a few times before its thread sleeps, and tried
-//! again once it is woken.
+//! An end of the lane's channel with the pass that it shows, and what the two do together: one send, one receive, and
+//! the steps in which parts are made, passed on and joined. A send or receive is tried a few times before its thread
+//! sleeps, and again after it is woken.
 
 ghost use Rattle.std.specs.Prelude.{ℕ, ◌≡◌, ◌<◌, ◌++◌, true, false, None, IfOk, OnOk, IfSome, OnSome};
 ghost use Rattle.crossbeam_channel.specs.Claims.{view as known_by, IsSeatAt};
@@ -22,8 +22,8 @@ use std::hint;
 use std::marker::Model;
 use std::sync::{Arc, Wait};
 
-// How often a call is tried before its thread may sleep. To sleep and to be woken costs about as much as the pauses between these
-// tries, each twice as long as the one before.
+// How often a call is tried before its thread may sleep. Sleeping and waking costs about as much as the pauses between
+// these tries, each twice as long as the one before.
 const TRIES: u32 = 8;
 
 /// A sender and its pass. Contracts see its lane and what it knows.
@@ -70,7 +70,7 @@ impl SeatedSender {
         self.pass
     }
 
-    /// Makes the parts of the view anew. The pass that is split off knows nothing.
+    /// Replaces the view by its new parts. The pass that is split off knows nothing.
     pub(crate) fn split<M: Split<Parts>>(&mut self)
         requires rule { (pass : ℕ) → Forks IsLane pass self.old.known (M.left self.old.known)
             (M.right self.old.known) }
@@ -79,7 +79,7 @@ impl SeatedSender {
         let _spent = self.sender.another::<M>(&mut self.pass);
     }
 
-    /// The part behind the closer's, with a sender of its own.
+    /// The part after the closer's, with its own sender.
     pub(crate) fn give_sender(&mut self) -> Result<SeatedSender, AllocError>
         requires may { MayGive self.old.known }
         ensures left { OnOk result (self.new
@@ -97,7 +97,7 @@ impl SeatedSender {
         })
     }
 
-    /// The part behind the closer's, with a receiver of its own.
+    /// The part after the closer's, with its own receiver.
     pub(crate) fn give_receiver(
         &mut self,
         receiver: &Receiver,
@@ -153,7 +153,7 @@ impl SeatedSender {
         }
     }
 
-    // Tries to send the message, never sleeps, and answers whether the message is sent.
+    // Tries to send the message, never sleeps, and returns whether the message was sent.
     fn put_soon<R: Wait>(&mut self, rt: &R, message: Taken) -> bool
         requires may { MaySend (room_of self.old) self.old.known message }
         ensures sent { result ≡ true → self.new
@@ -169,7 +169,8 @@ impl SeatedSender {
         false
     }
 
-    // Tries once more to send the message, sleeps until room was made if it could not, and answers whether the message is sent.
+    // Tries once more to send the message. If it cannot, sleeps until a message was taken. Returns whether the message
+    // was sent.
     fn put_or_sleep<R: Wait>(&mut self, rt: &R, message: Taken) -> bool
         requires may { MaySend (room_of self.old) self.old.known message }
         ensures sent { result ≡ true → self.new
@@ -185,7 +186,7 @@ impl SeatedSender {
         is_sent
     }
 
-    // Tries once to send the message, and answers whether it is sent.
+    // Tries once to send the message, and returns whether it was sent.
     fn try_put<R: Wait>(&mut self, rt: &R, message: Taken) -> bool
         requires may { MaySend (room_of self.old) self.old.known message }
         ensures sent { result ≡ true → self.new
@@ -203,7 +204,7 @@ impl SeatedSender {
         false
     }
 
-    /// Looks once at a lane that is done: nothing is left in its queue, so it is whole.
+    /// Looks once at a lane that is done: its queue is empty, so the lane is complete.
     pub(crate) fn look<R: Wait>(&mut self, rt: &R, receiver: &Receiver)
         requires channel { IsChannelOf self.old.lane (receives_on receiver.now) }
         requires full { (takers : ℕ) × IsAllIn self.old.known takers (room_of self.old) }
@@ -275,7 +276,7 @@ impl SeatedReceiver {
         None
     }
 
-    // Tries once more to take the next message, and sleeps until one was put if there is none.
+    // Tries once more to take the next message. If there is none, sleeps until one was put.
     fn take_or_sleep<R: Wait>(&mut self, rt: &R) -> Option<Taken>
         requires may { MayTake self.old.known }
         ensures took { IfSome result (λ message. self.new
@@ -308,7 +309,7 @@ impl SeatedReceiver {
     }
 }
 
-// Keeps the processor for a moment. To give it away would be to wait for all others that want it.
+// Pauses for a moment without giving the processor away, since that would mean waiting for all others that want it.
 fn pause(turn: u32)
     requires few { turn < TRIES }
 {

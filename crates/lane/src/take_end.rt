@@ -32,7 +32,7 @@ impl Model for TakeEnd {
 }
 
 impl TakeEnd {
-    // A take end that took nothing yet.
+    // Creates a take end that has taken nothing.
     pub(crate) fn new(seat: SeatedReceiver, taker: u8) -> TakeEnd
         requires part { seat.known ≡ Part.Take taker (room_of seat) [] ∷ [] }
         ensures value { result ≡ record { lane = seat.lane; taker = taker; took = [] } }
@@ -57,14 +57,14 @@ impl TakeEnd {
         message
     }
 
-    /// The receiver and the pass by which it takes.
+    /// The receiver and the pass with which it takes.
     pub fn seat(&self) -> &SeatedReceiver
         ensures { self.now ≡ take_end_view result.now self.now.taker }
     {
         &self.seat
     }
 
-    /// Whether Stop or Quit was taken. It is then the last that was taken.
+    /// Whether Stop or Quit was taken. If so, it was the last message taken.
     pub fn is_done(&self) -> bool
         ensures took { result ≡ is_done self.now.took }
         ensures last { result ≡ ends_in_mark self.now.took }
@@ -72,7 +72,7 @@ impl TakeEnd {
         self.done
     }
 
-    // Hands the end's part to the closer.
+    // Passes the end's part to the closer.
     pub(crate) fn join(self, closer: &mut SeatedSender)
         requires closer { IsClosers closer.old.known }
         requires lane { self.lane ≡ closer.old.lane }

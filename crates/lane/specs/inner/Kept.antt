@@ -1,4 +1,4 @@
--- What the ends keep, and what holds while a lane is opened and its parts join again.
+-- What the ends store, and what is true while a lane is opened and its parts join again.
 use Rattle.std.specs.Prelude.{◌≡◌, ℕ, ◌-◌, ◌*◌, ◌<◌, ◌≤◌, true, false, List, [], ◌∷◌, ◌++◌, length, map, replicate}
 use Rattle.std.specs.List.{AllByRecursion, sum_by}
 use Rattle.atomic_table.specs.declared.badge.Badge.{Badge}
@@ -30,7 +30,7 @@ IsChannelOf lane c = (lane_at c ≡ lane) × IsKeyed c
 abbrev pub MayGive : List Part → Type 0
 MayGive v = (pass : ℕ) → Forks IsLane pass v (without_second v) (second_alone v)
 
--- the list of a put end that may still send: rows alone, so many
+-- the list of a put end that may still send: n rows and nothing else
 pub record IsOpenPut (v : List Part) (file capacity count : ℕ) : Type 0 where
   pub part : v ≡ Put file capacity (sent_in v) ∷ []
   pub list : IsFrom file 0 (sent_in v)
@@ -39,7 +39,7 @@ pub record IsOpenPut (v : List Part) (file capacity count : ℕ) : Type 0 where
   pub places : length (sent_in v) ≡ count
   pub few : count ≤ MAX_ROWS
 
--- the list of an ended put: so many rows and the end mark
+-- the list of an ended put: n rows and the end mark
 pub record IsEndedPut (v : List Part) (file capacity count : ℕ) : Type 0 where
   pub part : v ≡ Put file capacity (sent_in v) ∷ []
   pub list : IsEndedFrom file 0 (sent_in v)
@@ -50,7 +50,7 @@ pub record IsTake (v : List Part) (taker capacity : ℕ) : Type 0 where
   pub part : v ≡ Take taker capacity (took_in v) ∷ []
   pub ordered : IsOrdered (took_in v)
 
--- the closer's part alone: nothing was closed yet
+-- the closer's part alone: no Stop or Quit was put
 pub record IsCloser (v : List Part) (files takers capacity : ℕ) : Type 0 where
   pub part : v ≡ Close files takers capacity 0 0 ∷ []
   pub some_taker : 0 < takers
@@ -69,12 +69,12 @@ pub record IsGathered (v : List Part) (count : ℕ) : Type 0 where
   pub whole : IsWhole (gathering_in v)
   pub rows : sum_by row_count (sent_lists v) ≡ count
 
--- the view is a closer's
+-- the view is that of a closer
 abbrev pub IsClosers : List Part → Type 0
 IsClosers (Close files takers capacity stops quits ∷ v) = Unit {0}
 IsClosers _ = ⊥
 
--- some ended parts joined the closer's, and those of the rest are to come
+-- some ended parts joined the closer's part, and the ended parts of the remaining files will
 pub record IsJoining (size : Size) (lane : Lane) (all rest : List PutEndView) (v : List Part) (count : ℕ) : Type 0 where
   pub part : v ≡ Close size.files size.takers size.capacity 0 0 ∷ put_parts size.capacity 0 (sent_lists v)
   pub lists : sent_lists v ++ map (λ p. p.sent) rest ≡ map (λ p. p.sent) all
@@ -89,7 +89,7 @@ pub record IsJoined (v : List Part) (files takers capacity : ℕ) : Type 0 where
   pub all_files : length (sent_lists v) ≡ files
   pub ended : AllByRecursion (λ l. has_end l ≡ true) (sent_lists v)
 
--- some take parts joined the closer's, and those of the rest are to come
+-- some take parts joined the closer's part, and those of the remaining takers will
 pub record IsGathering (size : Size) (lane : Lane) (sent : List (List Taken)) (all rest : List TakeEndView) (v : List Part) : Type 0 where
   pub part : v ≡ full_view size.files size.takers size.capacity sent (taken_lists v)
   pub lists : taken_lists v ++ map (λ t. t.took) rest ≡ map (λ t. t.took) all
@@ -97,7 +97,7 @@ pub record IsGathering (size : Size) (lane : Lane) (sent : List (List Taken)) (a
   pub done : AllByRecursion (λ l. is_done l ≡ true) (taken_lists v)
   pub rest_done : AllByRecursion (λ t. is_done t.took ≡ true) rest
 
--- the closer's view while put ends, and then take ends, are given away: those from number k on are left
+-- the closer's view while put ends, and then take ends, are given away: the ends from number k on remain
 abbrev pub puts_left : ℕ → ℕ → ℕ → ℕ → List Part
 puts_left files takers capacity k = Close files takers capacity 0 0 ∷ (put_parts capacity k (replicate (files - k) []) ++ take_parts capacity 0 (replicate takers []))
 

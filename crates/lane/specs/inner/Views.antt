@@ -1,4 +1,4 @@
--- What a take tells, and how views change as a lane is opened.
+-- What a take guarantees, and how views change while a lane is opened.
 use Rattle.std.specs.Prelude.{◌≡◌, ◌+◌, List, [], ◌∷◌}
 use Rattle.lane.specs.declared.message.Taken.{Taken}
 use Rattle.lane.specs.declared.part.Part.{Part}
@@ -9,17 +9,19 @@ use Rattle.lane.specs.Rule.{all_parts}
 use Rattle.lane.specs.EndFields.{took_in}
 use Rattle.lane.specs.Steps.{with_message}
 
--- what holds of what one taker took: positions of one file rise, nothing of a file follows its end mark, and Stop or Quit is last
+-- what is true of the messages that one taker took: positions of one file rise, nothing of a file follows its end mark, and Stop or Quit is
+-- last
 pub record IsOrdered (took : List Taken) : Type 0 where
   pub rises : Rises took
   pub ends : EndsClose took
   pub marks : MarksLast took
 
--- a take tells that the message joined the taker's list, which is in order
+-- a take guarantees that the message was appended to the taker's list, which is in order
 abbrev pub Takes : List Part → Taken → List Part → Type 0
 Takes v m w = (w ≡ with_message v m) × IsOrdered (took_in w)
 
--- how the views change as the lane is opened: one more file, taker or place; the count becomes all parts; the second part moves to a new pass
+-- how the views change while the lane is opened: one more file, taker or unit of capacity; the count becomes all parts; the second part
+-- moves to a new pass
 abbrev pub more_files : List Part → List Part
 more_files (Count files takers capacity ∷ v) = Count (files + 1) takers capacity ∷ v
 more_files _ = []
