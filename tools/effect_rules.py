@@ -143,8 +143,8 @@ class Judged:
         files, outcomes, self.costs = page
         self.may = may_of(ran, files)
         # If standard error cannot be written, no line says which outcome it is.
-        is_untold = any(call.is_refused for call in record.streams[2].calls)
-        self.outcome = SOME if is_untold and self.may.inputs else outcome_of(ran, self.may, outcomes)
+        is_silent = any(call.is_refused for call in record.streams[2].calls)
+        self.outcome = SOME if is_silent and self.may.inputs else outcome_of(ran, self.may, outcomes)
         # An opening that a signal interrupts is made again.
         opened = [used for used in record.files if used.opened and used.opened.error != "EINTR"]
         self.inputs, self.outputs = opened[:len(self.may.inputs)], opened[len(self.may.inputs):]
@@ -223,7 +223,7 @@ class Judged:
         for one, following in pairs if is_check else pairs[:1]:
             assert following.opened
             if one.is_open and (one.closed is None or one.closed.end > following.opened.begin):
-                yield f"{os.fsdecode(one.path)!r} is open beside the next file"
+                yield f"{os.fsdecode(one.path)!r} is open at the same time as the next file"
         zones = [] if is_check else self.inputs[1:]
         first = min([1 << 60, *(call.begin for used in zones for call in used.calls)])
         if any(used.opened and used.opened.end > first for used in zones):

@@ -2,11 +2,11 @@
 
 # The subject of the contents, and how to read them.
 CONTENTS = """A zone file is a CSV text with the columns x, y, z, tonnes and grade; the file of number i has the blocks of the plan's zone i. For
-each file a thread, its reader, takes the bytes of a feed and puts the rows into a queue, the lane. Valuers, threads too, take them
+each file a thread, its reader, takes the bytes of a feed and puts the rows into a queue, the lane. Valuers, also threads, take them
 out, and value each block at each destination. Sinks take the texts, which depend on none of these threads.
 
-Each contract stands here with its clauses. Behind a word stands the number of the section that defines it; below a clause each of its
-words has those that it uses. A word that has no number is told in `How to read this`, or is one of the library."""
+Each contract is listed here with its clauses. After a word is the number of the section that defines it; below a clause each of its
+words has the words that it uses. A word without a number is explained in `How to read this`, or is one of the library."""
 
 # The subject of each part of the text.
 PARTS = {

@@ -19,7 +19,7 @@ class Need(NamedTuple):
 
 
 NEEDS = [
-    Need(["bash"], "", "the gate, completions, a recipe"),
+    Need(["bash"], "", "CI, completions, a recipe"),
     Need(["cat"], "", "recipes: with it come cksum, cp, head, ls, sort, tr, wc and the like"),
     Need(["awk"], "", "recipes"),
     Need(["grep"], "", "recipes"),

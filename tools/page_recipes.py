@@ -9,7 +9,7 @@ import shared
 
 
 class Recipe:
-    """A command block, its place on the page, which programs it lacks, and what it must print."""
+    """A command block, its place on the page, which programs are missing for it, and what it must print."""
 
     def __init__(self, place, commands, programs):
         self.place, self.commands, self.wanted = place, commands, None
@@ -39,7 +39,7 @@ def printed_by(recipes, top, folder, environment=None):
     for number, recipe in enumerate(recipes):
         piece = os.path.join(folder, str(number))
         shared.write(piece, recipe.commands)
-        script += f"{{ . '{piece}'; }} > '{piece}.told' 2>&1\necho $? > '{piece}.status'\n"
+        script += f"{{ . '{piece}'; }} > '{piece}.printed' 2>&1\necho $? > '{piece}.status'\n"
     # A writer without a reader would wait forever.
     jobs = os.path.join(folder, "jobs")
     script += f"jobs -p > '{jobs}'\n[ ! -s '{jobs}' ] || kill $(cat '{jobs}') 2> /dev/null\n"
@@ -49,7 +49,7 @@ def printed_by(recipes, top, folder, environment=None):
     except subprocess.TimeoutExpired:
         shell.kill()
     for piece in (os.path.join(folder, str(number)) for number in range(len(recipes))):
-        printed = shared.read(piece + ".told") if os.path.exists(piece + ".told") else ""
+        printed = shared.read(piece + ".printed") if os.path.exists(piece + ".printed") else ""
         ended = os.path.exists(piece + ".status")
         yield printed, int(shared.read(piece + ".status")) if ended else None
 

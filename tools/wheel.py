@@ -31,8 +31,8 @@ Requires-Python: {python}
 Description-Content-Type: text/markdown
 
 `pitc` turns the block models of an open pit mine into a MineLib instance. `pitc_thin` writes the precedences alone, with fewer
-arcs. `pit-tools` leads from a mining package's export to an instance and back. The pages stand in `share/pitc`, beside
-`bin`; licences are in `NOTICES.md` there, and pitc has none of its own yet.
+arcs. `pit-tools` goes from a mining package's export to an instance and back. The pages are in `share/pitc`, next to
+`bin`. Licences are in `NOTICES.md` there; pitc itself has none yet.
 """
 
 WHEEL = """Wheel-Version: 1.0
