@@ -14,7 +14,7 @@
 #include <unistd.h>
 
 static long calls, nth;
-static int number, told = -1, all_behind, no_links;
+static int number, messages = -1, all_after, no_links;
 static char below[4096];
 static char ours[4096];
 
@@ -22,13 +22,13 @@ void refuse_at(long n, int signal, const char *folder, int descriptor) {
     calls = 0;
     nth = n;
     number = signal;
-    told = descriptor;
+    messages = descriptor;
     strncpy(below, folder, sizeof below - 1);
     ours[1] = 1;
 }
 
-void refuse_more(int behind, int links) {
-    all_behind = behind;
+void refuse_more(int after, int links) {
+    all_after = after;
     no_links = links;
 }
 
@@ -46,8 +46,8 @@ static ssize_t plainly(int fd, const char *text) {
 
 /* Returns whether this call is refused; `code` is then the error. */
 static int refused(const char *what, int code) {
-    if (!nth || ++calls < nth || (calls > nth && !all_behind)) return 0;
-    if (calls == nth) plainly(told, what);
+    if (!nth || ++calls < nth || (calls > nth && !all_after)) return 0;
+    if (calls == nth) plainly(messages, what);
     if (number) {
         kill(getpid(), number);
         return 0;

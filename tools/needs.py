@@ -119,7 +119,7 @@ def of_recipes() -> List[str]:
 
 
 def missing_of_planner() -> Dict[str, Tuple[List[str], str]]:
-    """Returns what is missing for `./try planner`, like `lacking`."""
+    """Returns what is missing for `./try planner`, like `missing`."""
     found = {need.names[0]: ([need.package], "the pit in a survey") for need in NEEDS if need.package == "g++" and not is_there(need)}
     if first_with_modules(OF_PIT_TOOLS)[0] is None:
         found["a python3 with " + ", ".join(OF_PIT_TOOLS)] = (packages_of(OF_PIT_TOOLS), "pit-tools")

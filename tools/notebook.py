@@ -33,9 +33,9 @@ reader = subprocess.Popen(["sh"], cwd=top, stdin=subprocess.PIPE, stdout=subproc
 @register_cell_magic
 def shell(words, commands):
     """Prints what the commands print, line by line. Skips them if a program after %%shell is missing."""
-    lacking = [program for program in words.split() if not shutil.which(program)]
-    if lacking:
-        print("skipped, since these are missing:", *lacking)
+    missing = [program for program in words.split() if not shutil.which(program)]
+    if missing:
+        print("skipped, since these are missing:", *missing)
         return
     with tempfile.NamedTemporaryFile("w", encoding="utf-8") as cell:
         print(commands, file=cell, flush=True)

@@ -18,7 +18,7 @@ def spoiled(parts):
     texts = dict(ONE_ORE_BLOCK)
     for ending, how in (part.split("=") for part in parts.split()):
         texts[ending] = Folder() if how == "folder" else lines(how + "|")
-        if how == "lacking":
+        if how == "missing":
             del texts[ending]
     return texts
 
@@ -65,10 +65,10 @@ COUNTED = [
     ),
     ("two zones in their order", TWO_ZONES, "blocks 2 arcs 0 coefficients 0 limits 0 cpit 0"),
     ("as much as a plan may hold", fullest.TEXTS, fullest.COUNTS),
-    ("check cpit=lacking", spoiled("cpit=lacking"), "blocks 1 arcs 0 coefficients 0 limits 0"),
+    ("check cpit=missing", spoiled("cpit=missing"), "blocks 1 arcs 0 coefficients 0 limits 0"),
     *(
         (f"check {parts}", spoiled(parts), "blocks 1 arcs 0 coefficients 0 limits 0 cpit 0")
-        for parts in ("upit=lacking", "upit=x", "upit=folder")
+        for parts in ("upit=missing", "upit=x", "upit=folder")
     ),
     *(
         (name, texts, "blocks 1 arcs 0 coefficients 0 limits 0 cpit 0")
@@ -78,18 +78,18 @@ COUNTED = [
 
 # What is spoiled, and what `check` reports. Files are opened and read in this order, before any text is.
 SPOILED = [
-    ("blocks=lacking prec=lacking pcpsp=lacking", "blocks: FeedFailed"),
-    ("blocks=folder prec=lacking pcpsp=lacking", "blocks: FeedFailed"),
-    ("blocks=x prec=lacking pcpsp=lacking", "prec: FeedFailed"),
-    ("blocks=x prec=folder pcpsp=lacking", "prec: FeedFailed"),
-    ("blocks=x prec=x pcpsp=lacking cpit=folder", "pcpsp: FeedFailed"),
+    ("blocks=missing prec=missing pcpsp=missing", "blocks: FeedFailed"),
+    ("blocks=folder prec=missing pcpsp=missing", "blocks: FeedFailed"),
+    ("blocks=x prec=missing pcpsp=missing", "prec: FeedFailed"),
+    ("blocks=x prec=folder pcpsp=missing", "prec: FeedFailed"),
+    ("blocks=x prec=x pcpsp=missing cpit=folder", "pcpsp: FeedFailed"),
     ("blocks=x prec=x pcpsp=folder cpit=folder", "pcpsp: FeedFailed"),
     ("blocks=x prec=x pcpsp=x cpit=folder", "cpit: FeedFailed"),
     ("blocks=x prec=x pcpsp=x cpit=x", "blocks line 1: Fields"),
-    ("blocks=x cpit=lacking", "blocks line 1: Fields"),
+    ("blocks=x cpit=missing", "blocks line 1: Fields"),
     ("prec=x pcpsp=x cpit=x", "prec line 1: Fields"),
     ("pcpsp=x cpit=x", "pcpsp line 1: Key"),
-    ("pcpsp=x cpit=lacking", "pcpsp line 1: Key"),
+    ("pcpsp=x cpit=missing", "pcpsp line 1: Key"),
     ("cpit=x", "cpit line 1: Key"),
     ("cpit=folder", "cpit: FeedFailed"),
     ("upit=folder cpit=folder", "cpit: FeedFailed"),
@@ -106,9 +106,9 @@ SPOILED = [
 # Texts with a fault at the end of the first chunk, and the report.
 INVALID = [
     ("a mark at the end of a piece", across(1, MARK + ONE_LINE[1:]), "blocks line 2: Number"),
-    ("a fault behind a piece", across(0, b"x\n\n0"), "blocks line 2: Fields"),
+    ("a fault after a piece", across(0, b"x\n\n0"), "blocks line 2: Fields"),
     ("a fault across the end of a piece", across(1, b"0 x\n"), "blocks line 2: Fields"),
-    ("a line that is lacking", across(1, b" \n%", "prec"), "prec line 4: Missing"),
+    ("a missing line", across(1, b" \n%", "prec"), "prec line 4: Missing"),
 ]
 
 
@@ -182,7 +182,7 @@ ENDS = [
     ("the least", at_its_ends("0", "0", "0", -(10**18), (1, 1, 1), "0", "-")),
     ("the greatest",
      at_its_ends("9999", "1000000", "63", 10**18, (100, 8, 8), "1", "Az_9." * 12 + "-09Z")),
-    ("spelled in full", at_its_ends(
+    ("written in full", at_its_ends(
         "+09999.0", "001000000.0000", "063.", f"+{10**18}.0000000", (100, 8, 8), "1.000000", "a")),
     ("a millionth", at_its_ends(".0", "0.001", "-0", "-.000001", (1, 1, 1), ".000001", "0" * 64)),
 ]
@@ -190,18 +190,18 @@ ENDS = [
 # Other formats of a number, and of its sign and digits.
 RESPELLED = {
     "a plus": lambda sign, digits: (sign or "+") + digits,
-    "two noughts in front": lambda sign, digits: f"{sign}00{digits}",
-    "seventy noughts in front": lambda sign, digits: sign + "0" * 70 + digits,
-    "a point behind": lambda sign, digits: sign + digits + "." * ("." not in digits),
-    "seven noughts behind the point": lambda sign, digits: sign + digits + "." * ("." not in digits) + "0" * 7,
-    "seventy noughts behind the point": lambda sign, digits: sign + digits + "." * ("." not in digits) + "0" * 70,
+    "two leading zeros": lambda sign, digits: f"{sign}00{digits}",
+    "seventy leading zeros": lambda sign, digits: sign + "0" * 70 + digits,
+    "a trailing point": lambda sign, digits: sign + digits + "." * ("." not in digits),
+    "seven zeros after the point": lambda sign, digits: sign + digits + "." * ("." not in digits) + "0" * 7,
+    "seventy zeros after the point": lambda sign, digits: sign + digits + "." * ("." not in digits) + "0" * 70,
     "no digit before the point":
         lambda sign, digits: sign + (".0" if digits == "0" else digits[digits.startswith("0."):]),
     "minus nought": lambda sign, digits: ("-" if digits == "0" else sign) + digits,
 }
 
 
-def respelled(text, how):
+def rewritten(text, how):
     """A text in which each number has this format."""
     def formatted_so(found):
         return RESPELLED[how](found[1], found[2])
@@ -217,10 +217,10 @@ def of_spellings():
         b"1 2 I 1 9007199254.740992\n1 3 I 1 18446744073709.551616\n"
     largest = {ending: text.replace(limits, more) for ending, text in largest.items()}
     for how in RESPELLED:
-        nine = {ending: respelled(text, how) for ending, text in NINE_TEXTS.items()}
+        nine = {ending: rewritten(text, how) for ending, text in NINE_TEXTS.items()}
         yield counted(f"nine blocks of many numbers with {how}", nine, NINE_COUNTS)
         for texts, count in ((noughts, 1), (largest, 7)):
-            other = {ending: respelled(text, how) for ending, text in texts.items()}
+            other = {ending: rewritten(text, how) for ending, text in texts.items()}
             name = f"each number with {how}: {count} limits"
             yield counted(name, other, f"blocks 2 arcs 2 coefficients 1 limits {count} cpit 1")
     for name in NAMES:

@@ -33,10 +33,10 @@ def covering(factors: Dict[str, Sequence]) -> Iterator[Dict]:
 # The format of a text: how its lines end, what surrounds each cell or field, and how each number is written.
 ENDS = {"LF": "\n", "CR LF": "\r\n", "CR": "\r", "CR CR LF": "\r\r\n", "none at the end": "\n"}
 ABOUT = {"nothing": ("", ""), "blanks": (" ", "  "), "tabs": ("\t", "\t\t"), "a blank and a tab": (" \t", " \t"), "a tab and a blank": ("\t ", "\t ")}
-SPELLED = {
+WRITTEN = {
     "shortest": str, "a plus": lambda text: text if text[0] == "-" else "+" + text,
-    "zeros in front": lambda text: "-00" + text[1:] if text[0] == "-" else "00" + text,
-    "a point": lambda text: text + ("0" * 7 if "." in text else "."), "zeros behind": lambda text: text + ("" if "." in text else ".") + "0" * 300,
+    "leading zeros": lambda text: "-00" + text[1:] if text[0] == "-" else "00" + text,
+    "a point": lambda text: text + ("0" * 7 if "." in text else "."), "trailing zeros": lambda text: text + ("" if "." in text else ".") + "0" * 300,
 }
 MARKS = ["none", "the first text", "the other texts", "each text"]
 
@@ -79,7 +79,7 @@ ORDERS = {"rising": lambda places: places, "falling": lambda places: places[::-1
           "columns first": sorted, "any": lambda places: random.Random(7).sample(places, len(places))}
 COLUMNS = {"usual": "x,y,z,tonnes,grade", "turned": "grade,tonnes,z,y,x", "in capitals": "X,Y,Z,TONNES,Grade",
            "others between": "rock,x,zone,y,z,tonnes,a,grade",
-           "one behind": "x,y,z,tonnes,grade,rock", "an empty one behind": "tonnes,x,grade,z,y,"}
+           "one after": "x,y,z,tonnes,grade,rock", "an empty one after": "tonnes,x,grade,z,y,"}
 QUOTES = {"none": None, "each cell": "", "commas": "a,b", "line ends": "\r\na\n", "doubled": '""a""', "doubled about 4,096": "a" * 3_000 + '"' * 600 + ",",
           "doubled about 65,536": "b" * 64_500 + '"' * 1_200 + ",", "a long cell": "c" * 4_200 + ",\n"}
 KEYS = {"as they are": str, "in capitals": str.upper, "titles": str.title}
@@ -89,7 +89,7 @@ FORMS = ["the pipe form", "compile", "pitc_thin"]
 MODELS = {
     "form": FORMS, "files": [1, 2, 5, 10, 64], "end": list(ENDS), "quotes": list(QUOTES), "about": list(ABOUT), "mark": MARKS, "side": list(SIDES),
     "order": list(ORDERS), "columns": list(COLUMNS), "box": list(BOXES), "grid": list(GRIDS), "masses": list(MASSES), "destinations": list(DESTINATIONS),
-    "limits": list(LIMITS), "spelled": list(SPELLED), "keys": list(KEYS), "padded": list(PADDED),
+    "limits": list(LIMITS), "written": list(WRITTEN), "keys": list(KEYS), "padded": list(PADDED),
 }
 
 
@@ -121,7 +121,7 @@ def model_of(choice: Dict) -> Model:
 def cells_of(record: str, choice: Dict) -> List[str]:
     """Returns the cells of a record, each number in its format and between blanks."""
     before, after = ABOUT[choice["about"]]
-    spell = SPELLED[choice["spelled"]]
+    spell = WRITTEN[choice["written"]]
     return [before + (spell(cell) if is_number(cell) else cell) + after for cell in record.split(",")]
 
 
@@ -141,7 +141,7 @@ def dressed_plan(model: Model, choice: Dict) -> bytes:
 
 
 def dressed_zone(rows: Sequence[str], choice: Dict, odd: int = -1, more: int = 0) -> bytes:
-    """Returns a zone file of these rows, with its columns in the chosen order; the odd one has an extra empty cell at its end, or lacks
+    """Returns a zone file of these rows, with its columns in the chosen order; the odd one has an extra empty cell at its end, or is missing
     its last cell."""
     header, names = COLUMNS[choice["columns"]].split(","), "x,y,z,tonnes,grade".split(",")
     dressed = [record_of(header, choice["quotes"])]
@@ -194,7 +194,7 @@ RECORDS = {"name,two": "Twice", "pit,1": "Key", "periods": "Width", "rate,x": "N
            "resource,t,none": "Name", "limit,r,3,I,2,1": "Order", "leach,q,1,1" + "".join(f",{start},1" for start in range(257)): "TooMany"}
 FAULTS = [*CELLS, *WIDTHS, *RECORDS, "again", "a file more", "a file that is not there"]
 INVALID = {**MODELS, "side": ["none"], "masses": list(MASSES)[:2], "box": ["a row", "27"], "files": [1, 2, 10], "limits": list(LIMITS)[1:], "fault": FAULTS, "file": ["first", "last"],
-          "place": ["first", "last"], "behind": ["good files", "faulty files", "files that repeat"]}
+          "place": ["first", "last"], "after": ["good files", "invalid files", "files that repeat"]}
 
 
 def odd_cell(choice: Dict, column: str, text) -> str:
@@ -216,7 +216,7 @@ def invalid(choice: Dict, name: str) -> Trial:
         place = len(rows[file]) - 1
         rows[file][place] = ",".join([*rows[0][0].split(",")[:3], "5", "5"])
         line = f"file {file} row {place + 2} repeats file 0 row 2"
-        if choice["behind"] == "faulty files" and file + 1 < count:
+        if choice["after"] == "invalid files" and file + 1 < count:
             line = f"file {file + 1} row {len(rows[file + 1]) + 2} column x: Number"
     elif fault in CELLS:
         column, kind, text = CELLS[fault]
@@ -225,8 +225,8 @@ def invalid(choice: Dict, name: str) -> Trial:
         line += f"column {column}: {kind}"
     elif fault in WIDTHS:
         odd, more, line = place, WIDTHS[fault], line + "column whole: Width"
-    for zone in range(file + 1, count) if choice["behind"] != "good files" else ():
-        rows[zone].append("x,0,0,1,1" if choice["behind"] == "faulty files" else rows[0][0])
+    for zone in range(file + 1, count) if choice["after"] != "good files" else ():
+        rows[zone].append("x,0,0,1,1" if choice["after"] == "invalid files" else rows[0][0])
     zones = [dressed_zone(lines, choice, odd if zone == file else -1, more) for zone, lines in enumerate(rows)]
     missing = []
     if fault in RECORDS:
@@ -245,7 +245,7 @@ def invalid(choice: Dict, name: str) -> Trial:
 LINE_ENDS = {"LF": "\n", "CR LF": "\r\n", "none at the end": "\n", "CR at the end": "\n"}
 BETWEEN = {"a blank": " ", "blanks": "   ", "a tab": "\t", "tabs": "\t\t", "a blank and a tab": " \t"}
 ROUND = {"nothing": ("", ""), "blanks": ("  ", " "), "tabs": ("\t\t", "\t"), "both": (" \t", "\t ")}
-FIRST = {"nothing": [], "a remark": ["% x"], "blanks": [" \t"], "an empty line": [""], "a remark behind blanks": [" \t%% 1 0"]}
+FIRST = {"nothing": [], "a remark": ["% x"], "blanks": [" \t"], "an empty line": [""], "a remark after blanks": [" \t%% 1 0"]}
 AMONG = {"nothing": [], "remarks": ["%", "\t% 1:1"], "blank lines": ["", " \t "], "many": [""] * 300}
 HEADS = {"usual": lambda keys: keys, "turned": lambda keys: keys[::-1], "any": lambda keys: random.Random(5).sample(keys, len(keys))}
 PREDS = {
@@ -263,7 +263,7 @@ TEXTS = {
     "blocks": [1, 2, 12, 300], "end": list(LINE_ENDS), "between": list(BETWEEN), "round": list(ROUND), "first": list(FIRST),
     "among": list(AMONG), "mark": MARKS, "head": list(HEADS), "colon": [":", " : ", "\t:\t\t"], "preds": list(PREDS),
     "destinations": [1, 2, 8], "resources": [1, 2, 8], "periods": [1, 2, 100],
-    "spelled": list(SPELLED), "values": list(VALUES), "limits": list(INTERVALS), "cpit": ["there", "lacking"],
+    "written": list(WRITTEN), "values": list(VALUES), "limits": list(INTERVALS), "cpit": ["there", "missing"],
 }
 
 
@@ -288,7 +288,7 @@ def lines_of(choice: Dict) -> Dict[str, List[str]]:
 def dressed_line(line: str, choice: Dict) -> str:
     before, after = ROUND[choice["round"]]
     key, colon, fields = line.rpartition(":")
-    spell, between = SPELLED[choice["spelled"]], BETWEEN[choice["between"]]
+    spell, between = WRITTEN[choice["written"]], BETWEEN[choice["between"]]
     prefix = key + (choice["colon"] if colon else "")
     return before + prefix + between.join(spell(field) if is_number(field) else field for field in fields.split()) + after
 
@@ -334,7 +334,7 @@ FIELDS = [
         (0, "{resources}", "Range"), (1, "{periods}", "Range"), (1, "-1", "Range"), (2, "l", "Name"), (3, "0.0000001", "TooFine")]),
 ]
 LINES = [("prec", "Missing"), ("prec", "Twice"), *((file, kind) for file in ("pcpsp", "cpit") for kind in ("Missing", "Order", "Key", "Count"))]
-INVALID_TEXTS = {**TEXTS, "blocks": [12, 300], "cpit": ["there"], "fault": [*FIELDS, *LINES], "behind": ["good texts", "faulty texts"]}
+INVALID_TEXTS = {**TEXTS, "blocks": [12, 300], "cpit": ["there"], "fault": [*FIELDS, *LINES], "after": ["good texts", "invalid texts"]}
 
 
 def spoiled(lines: Dict[str, List[str]], choice: Dict):
@@ -374,7 +374,7 @@ def refused_texts(choice: Dict, name: str) -> Trial:
     file, reported, kind = spoiled(lines, choice)
     texts, number = {}, 0
     for ending, text in lines.items():
-        if number and choice["behind"] == "faulty texts":
+        if number and choice["after"] == "invalid texts":
             text = ["x", *text]
         texts[ending], found = dressed_text(text, choice, reported if ending == file else "")
         number = found if ending == file else number
@@ -390,7 +390,7 @@ def named(what: str, choice: Dict) -> str:
 def rows_by(is_thin: bool) -> Iterator[Later]:
     """The rows of pitc_thin, or those of pitc."""
     for what, factors, make in [
-            ("models", MODELS, accepted), ("faulty models", INVALID, invalid), ("texts", TEXTS, checked), ("faulty texts", INVALID_TEXTS, refused_texts)]:
+            ("models", MODELS, accepted), ("invalid models", INVALID, invalid), ("texts", TEXTS, checked), ("invalid texts", INVALID_TEXTS, refused_texts)]:
         for choice in covering(factors):
             if (choice.get("form") == FORMS[2]) == is_thin:
                 yield Later(named(what, choice), functools.partial(make, choice))

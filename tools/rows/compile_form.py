@@ -85,7 +85,7 @@ FILES = {
     "columns": b"zone,x,y,z,tonnes,grade\n0,0,0,0,1000,5000\n",
     "capitals": b"gRADE,tONNES,Z,y,x\n5000,1000,0,0,0\n",
     "late_again": zone_file(*LATE, LATE[0]),
-    "spelled": b"Grade,TONNES,z,Y,X\n+5000.000000,01000.,-0,00,.0\n",
+    "written": b"Grade,TONNES,z,Y,X\n+5000.000000,01000.,-0,00,.0\n",
     "void": b"grade,tonnes,z,y,x",
     "wide": wide_rows(),
     "wide_more": wide_rows().rstrip() + b",1\n",
@@ -136,7 +136,7 @@ WRITTEN = [
         (f"a file that is {second}, as the second", f"{plan} waste {second}", TWO_ZONES)
         for second, plan in [
             ("marked", "two"), ("turned", "two"), ("broken", "marked_two"), ("blank", "two"),
-            ("columns", "marked_two"), ("spelled", "two"), ("wide", "two"),
+            ("columns", "marked_two"), ("written", "two"), ("wide", "two"),
         ]
     ),
 ]
@@ -151,7 +151,7 @@ ACCEPTED = [
     ("a mark in the plan", "marked_plan ore", b""),
     ("a mark in both", "marked_plan marked", b""),
     *((f"a file that is {name}", f"one {name}", b"") for name in [
-        "marked", "turned", "broken", "blank", "columns", "capitals", "spelled", "wide"]),
+        "marked", "turned", "broken", "blank", "columns", "capitals", "written", "wide"]),
     ("a pipe with a mark", "marked_plan /dev/stdin", OTHER_ORE),
 ]
 
@@ -161,11 +161,11 @@ REFUSED = [
     ("a hyphen as a plan", "plan: FeedFailed", "- ore"),
     ("a folder as a plan", "plan: FeedFailed", ". ore"),
     ("a plan that is too long", "plan: TooLong", "long ore"),
-    ("a faulty plan", "plan row 1: Name", "faulty ore"),
-    ("a faulty plan, and a file that is not there", "plan row 1: Name", "faulty no/such"),
+    ("an invalid plan", "plan row 1: Name", "faulty ore"),
+    ("an invalid plan, and a file that is not there", "plan row 1: Name", "faulty no/such"),
     ("plan and zone file turned round", "plan row 1: Key", "ore one"),
-    ("a limit that stands twice, its ends turned round", "plan row 11: Twice", "limited_twice ore"),
-    ("periods behind their limits", "plan row 8: Range", "late_periods ore"),
+    ("a limit that is there twice, its ends turned round", "plan row 11: Twice", "limited_twice ore"),
+    ("periods after their limits", "plan row 8: Range", "late_periods ore"),
     ("a file that is not there", "file 3: FeedFailed", "one ore ore ore no/such"),
     ("the first of two that are not there", "file 0: FeedFailed", "one no/such ."),
     ("a hyphen as a zone file", "file 0: FeedFailed", "one -"),
@@ -185,19 +185,19 @@ REFUSED = [
     ("a block of other tonnes that repeats one", "file 1 row 3 repeats file 0 row 2", "two ore void1"),
     ("a wide row with a cell more", "file 0 row 2 column whole: Width", "one wide_more"),
     ("a wide row with a cell less", "file 0 row 2 column whole: Width", "one wide_less"),
-    ("the last of 64 is faulty", "file 63 row 2 column grade: Number",
+    ("the last of 64 is invalid", "file 63 row 2 column grade: Number",
      ["many", *(f"many{file}" for file in range(63)), "early"]),
     ("a folder as a zone file", "file 0: FeedFailed", "one ."),
     ("a folder as the second zone file", "file 1: FeedFailed", "two ore ."),
-    ("a folder behind a faulty file", "file 0 row 2 column x: OffGrid", "two off_grid ."),
-    ("a folder behind a late fault", "file 0 row 900 column grade: Number", "two late ."),
-    ("a folder before a faulty file", "file 0: FeedFailed", "two . off_grid"),
-    ("a folder between a good and a faulty file", "file 1: FeedFailed", "three ore . early"),
+    ("a folder after an invalid file", "file 0 row 2 column x: OffGrid", "two off_grid ."),
+    ("a folder after a late fault", "file 0 row 900 column grade: Number", "two late ."),
+    ("a folder before an invalid file", "file 0: FeedFailed", "two . off_grid"),
+    ("a folder between a good and an invalid file", "file 1: FeedFailed", "three ore . early"),
     ("two folders", "file 0: FeedFailed", "two . ."),
     ("a folder and a file that is not there", "file 1: FeedFailed", "two . no/such"),
-    ("a faulty file and one that is not there", "file 1: FeedFailed", "two early no/such"),
-    ("a faulty row, then a header", "file 0 row 2 column grade: Number", "two early empty"),
-    ("a faulty header, then a row", "file 0 row 1 column x: MissingColumn", "two empty early"),
+    ("an invalid file and one that is not there", "file 1: FeedFailed", "two early no/such"),
+    ("an invalid row, then a header", "file 0 row 2 column grade: Number", "two early empty"),
+    ("an invalid header, then a row", "file 0 row 1 column x: MissingColumn", "two empty early"),
     ("a late fault, then a header", "file 0 row 900 column grade: Number", "two late empty"),
     ("a row, then a poor header", "file 0 row 2 column grade: Number", "two early headless"),
     ("a late fault, a poor header", "file 0 row 900 column grade: Number", "two late headless"),
@@ -208,14 +208,14 @@ REFUSED = [
     ("a file that repeats itself, a fault", "file 1 row 2 column x: OffGrid", "two twice off_grid"),
     ("a long plan, and a file that is not there", "plan: TooLong", "long no/such"),
     ("no plan, and a file that is not there", "plan: FeedFailed", "no/plan no/such"),
-    ("the second and third faulty", "file 1 row 900 column grade: Number", "three ore late early"),
-    ("the third faulty", "file 2 row 2 column x: OffGrid", "three ore waste off_grid"),
+    ("the second and third invalid", "file 1 row 900 column grade: Number", "three ore late early"),
+    ("the third invalid", "file 2 row 2 column x: OffGrid", "three ore waste off_grid"),
     ("a repetition, then a row", "file 2 row 2 column x: OffGrid", "three ore ore off_grid"),
     ("a repetition, then a folder", "file 2: FeedFailed", "three ore ore ."),
     ("a repetition, a header", "file 2 row 1 column x: MissingColumn", "three ore ore empty"),
-    ("a faulty file of too few", "settings: Files", "two off_grid"),
+    ("an invalid file of too few", "settings: Files", "two off_grid"),
     ("a folder of too few", "settings: Files", "two ."),
-    ("faulty files of too many", "settings: Files", "one off_grid empty ."),
+    ("invalid files of too many", "settings: Files", "one off_grid empty ."),
     ("too many, of which the last is not there", "file 2: FeedFailed", "one ore ore no/such"),
     ("empty_file", "file 0 row 1 column x: MissingColumn", "one empty"),
     ("a row off the grid", "file 1 row 2 column x: OffGrid", "two ore off_grid"),
@@ -281,7 +281,7 @@ def files_that_are_written():
     name, base = "a base with a blank and a point", "an instance.v2"
     yield writes(name, "one ore", ONE_ORE_BLOCK, base)
     for name, base in [("zone file", "ore"), ("plan", "one"), ("folder", "place"), ("path", "place/"),
-                       ("path behind a folder", "place/../base"), ("path in a folder", "place/one")]:
+                       ("path after a folder", "place/../base"), ("path in a folder", "place/one")]:
         run = writes(f"a base that is a {name}", "one ore", ONE_ORE_BLOCK, base)
         left = {os.path.normpath(name) if ".." in name else name: text for name, text in run.left.items()}
         yield run._replace(files={**run.files, "place": Folder()}, left=left)

@@ -89,7 +89,7 @@ def arcs_of(name, counts, plan, *zones):
 
 LIMITED = input_of("tools/models/limits_and_coefficients.txt")
 
-# As many destinations and resources as allowed, each of which covers all.
+# The largest number of destinations and of resources, each of which covers all.
 NINE = input_of("tools/models/nine_blocks_of_many_numbers.txt")
 
 SAME = input_of("tools/models/same_block_in_two_files.txt")

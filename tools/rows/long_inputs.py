@@ -48,8 +48,8 @@ def texts_of_blocks() -> Iterator[Long]:
     yield Long(Trial("a check of 3,000 blocks", arguments=["check", "base"], files=files, out=counts))
     invalid = run._replace(files={**run.files, "1": ORE + b"x\n"})
     line = "file 1 row 3 column whole: Width"
-    yield Long(refused("a faulty row beside them", line, arguments=run.arguments, files=invalid.files), 1)
-    missing = refused("a file that is not there behind them", "file 1: FeedFailed", arguments=[*run.arguments[:-1], "no/such.csv"], files=run.files)
+    yield Long(refused("an invalid row next to them", line, arguments=run.arguments, files=invalid.files), 1)
+    missing = refused("a file that is not there after them", "file 1: FeedFailed", arguments=[*run.arguments[:-1], "no/such.csv"], files=run.files)
     yield Long(missing)
     yield Long(thinned(missing), is_thin=True)
 
@@ -66,7 +66,7 @@ def texts_that_go_by() -> Iterator[Long]:
     """What is read after the first invalid line, and never reported: the remainder of its text, and the later texts."""
     for invalid, text, ending in [("prec", b"?\n" + remarks(128), "prec"), ("blocks", remarks(128), "prec")]:
         files = at("base", {**ONE_ORE_BLOCK, invalid: b"?\n", ending: text})
-        name = f"128 MB of base.{ending} behind a faulty line of base.{invalid}"
+        name = f"128 MB of base.{ending} after an invalid line of base.{invalid}"
         yield Long(refused(name, f"{invalid} line 1: Fields", arguments=["check", "base"], files=files))
 
 

@@ -56,7 +56,7 @@ def thins(name, model, capacity=None):
 
 
 def trials():
-    """Those of pitc."""
+    """Yields the commands of pitc."""
     for name, model, is_checked in MODELS:
         yield compiles(name, model)
         yield pipes(name, model)
@@ -65,20 +65,20 @@ def trials():
             yield checks(name, texts)
             del texts["cpit"]
             yield checks(f"{name}, no cpit", texts)
-    yield checks("of a faulty file", {**plain_texts(*GOOD), "prec": b"0 1\n"})
+    yield checks("of an invalid file", {**plain_texts(*GOOD), "prec": b"0 1\n"})
     yield checks("of nothing", {})
-    yield pipes("with a faulty plan", [b"name\n"])
+    yield pipes("with an invalid plan", [b"name\n"])
     yield pipes("with wrong settings", [LEACH])
     yield Trial("refused words", arguments=["nope"])
     yield Trial("help", arguments=["--help"])
 
 
 def trials_of_thin():
-    """Those of pitc_thin."""
+    """Yields the commands of pitc_thin."""
     for name, model, _ in MODELS:
         yield thins(name, model)
     yield thins("arcs that follow from others", BENCHES)
-    yield thins("with a faulty plan", [b"name\n", ORE])
+    yield thins("with an invalid plan", [b"name\n", ORE])
     yield thins("with wrong settings", (LEACH, ORE))
     yield Trial("pitc_thin, refused words", arguments=["nope"])
     yield Trial("pitc_thin, help", arguments=["--help"])

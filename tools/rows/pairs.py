@@ -80,7 +80,7 @@ def compiled(name, line, plan, zones, **more):
 
 
 def in_two_records():
-    """Of plans, the first record of two; also after as many of a key as there may be, and before more records than there may be."""
+    """Of plans, the first record of two; also after the largest number of records of a key, and before too many records."""
     def reported(prefix, kind, first, second, name=""):
         line = f"plan row {prefix.count('|') + 1}: {kind}"
         name = short(f"two records: {first} before {name or second}")
@@ -187,8 +187,8 @@ def in_two_lines():
 def last_of(good, number, change):
     """Returns the number, before a change, of the last line that is changed or reported."""
     start = number_of(good, change.line)
-    is_behind = number >= start + len(change.others)
-    reported = number + change.count - len(change.others) if is_behind else number
+    is_after = number >= start + len(change.others)
+    reported = number + change.count - len(change.others) if is_after else number
     return max(reported, start + change.count - 1)
 
 
@@ -256,7 +256,7 @@ def in_two_files_of_an_instance():
 
 
 def of_compile():
-    """Those of plans and zone files, by `compile`."""
+    """Yields the pairs of plans and zone files, by `compile`."""
     yield from in_two_files(FILES)
     yield from in_two_texts()
 

@@ -62,7 +62,7 @@ PARTS = [
         "== blocks|0 0 0 0 2 0 0|1 1 0 0 1 0 0|== prec|",
     ),
     (
-        "marks in the plan and in each piece",
+        "marks in the plan and in each part",
         piped(MARK + THREE, *(MARK + zone_file(f"{at}0,0,0,1,0") for at in (2, 1, 0))),
         "== blocks|0 0 0 0 1 0 2|1 1 0 0 1 0 1|2 2 0 0 1 0 0|== prec|",
     ),
@@ -132,10 +132,10 @@ OPEN_QUOTES = [
 # rows, of many files; also if a number is written in another format.
 FAR_ROWS = [f"{x % 100}0,{x // 100}0,0,1,0" for x in range(70_000)]
 REPEATED_ROWS = [
-    ("rows behind blank lines", "0.3 0.2", [HEADER + b"\n\n0,0,0,1,0\n\r\n\n0,0,0,1,0\n"]),
-    ("a row behind a blank line of file 1", "1.3 0.2", [
+    ("rows after blank lines", "0.3 0.2", [HEADER + b"\n\n0,0,0,1,0\n\r\n\n0,0,0,1,0\n"]),
+    ("a row after a blank line of file 1", "1.3 0.2", [
         ORE, HEADER + b"\n10,0,0,1,0\n\n0,0,0,1,0\n"]),
-    ("rows behind line breaks in cells", "0.3 0.2", [
+    ("rows after line breaks in cells", "0.3 0.2", [
         b'x,y,z,tonnes,grade,"ro\nck"\n0,0,0,1,0,"a\n\nb"\n0,0,0,1,0,"c\n"\n']),
     ("late rows", "0.302 0.300", [
         zone_file(*FAR_ROWS[:299], FAR_ROWS[400], FAR_ROWS[298], FAR_ROWS[0])]),
@@ -149,7 +149,7 @@ REPEATED_ROWS = [
         *(zone_file(f"{file}0,0,0,1,0") for file in range(11)), HEADER,
         zone_file("110,0,0,1,0", "100,0,0,1,0")]),
     *(
-        (f"spelled in another way: {first} and {second}", "0.3 0.2", [zone_file(first, second)])
+        (f"written in another way: {first} and {second}", "0.3 0.2", [zone_file(first, second)])
         for first, second in [
             ("0,0,0,1,0", "0.0,0,0,1,0"), ("0,0,0,1,0", "-0,+0,00,2,3"),
             ("10,0,0,1,0", "010,0,0,1,0"),
@@ -157,7 +157,7 @@ REPEATED_ROWS = [
             ("0.,.0,0,1,0", "0,0,0.000,1,0"), ("10,20,30,1,0", "10.0,20.0,30.0,1,0"),
         ]
     ),
-    ("spelled in another way in file 1", "1.2 0.2", [ORE, zone_file("00.000,-0,+.0,7,7")]),
+    ("written in another way in file 1", "1.2 0.2", [ORE, zone_file("00.000,-0,+.0,7,7")]),
 ]
 
 # Zone files, of which each letter is a row and each other letter another block, and the rows that are reported: the first that repeats
@@ -170,18 +170,18 @@ AB CA DD 1.3 0.2, AB C CA 2.2 1.2, AB CC A 1.3 1.2, A BC CBA 2.2 1.3, A BC ABC 2
 ABCD E EA 2.2 1.2, ABCD EFA EE 1.4 0.2, ABCD EFE A 1.4 1.2, ABC D DCBA 2.2 1.2, A  B BA 3.2 2.2
 """
 
-# Zone files of a block each, as many as allowed and +1.
+# Zone files of a block each, the largest number and one too many.
 SIXTY_FOUR = [zone_file(f"{10 * file},0,0,1,0") for file in range(64)]
 ONE_MORE = [*SIXTY_FOUR, zone_file("0,10,0,1,0")]
 
 # The same for an input that is cut at each line `--` and nowhere else. Files are counted before they are read.
 CUTS = [
-    ("pieces: 65 for 64 zones", piped(zones(64), *ONE_MORE), "settings: Files"),
-    ("pieces: 65 zones", piped(zones(65), *ONE_MORE), "plan row 67: TooMany"),
-    ("pieces: 65 for one zone", piped(ONE, *ONE_MORE), "settings: Files"),
-    ("pieces: 257 for one zone", piped(ONE, *[ORE] * 257), "settings: Files"),
+    ("parts: 65 for 64 zones", piped(zones(64), *ONE_MORE), "settings: Files"),
+    ("parts: 65 zones", piped(zones(65), *ONE_MORE), "plan row 67: TooMany"),
+    ("parts: 65 for one zone", piped(ONE, *ONE_MORE), "settings: Files"),
+    ("parts: 257 for one zone", piped(ONE, *[ORE] * 257), "settings: Files"),
     (
-        "pieces: the last of 64 is faulty",
+        "parts: the last of 64 is invalid",
         piped(zones(64), *SIXTY_FOUR[:63], zone_file("0,0,0,1,?")),
         "file 63 row 2 column grade: Number",
     ),
@@ -200,24 +200,24 @@ CUTS = [
         TWO + b"--\r\n" + HEADER + b"--",
         "file 1 row 1 column x: MissingColumn",
     ),
-    ("hyphens behind a zone file", piped(ONE, ORE) + b"--", "settings: Files"),
-    ("hyphens and CR behind it", piped(ONE, ORE) + b"--\r", "file 0 row 3 column whole: Width"),
-    ("a blank behind the hyphens at the end", ONE + b"-- ", "plan row 7: Key"),
-    ("a tab behind the hyphens at the end of a zone file", piped(ONE, ORE) + b"--\t",
+    ("hyphens after a zone file", piped(ONE, ORE) + b"--", "settings: Files"),
+    ("hyphens and CR after it", piped(ONE, ORE) + b"--\r", "file 0 row 3 column whole: Width"),
+    ("a blank after the hyphens at the end", ONE + b"-- ", "plan row 7: Key"),
+    ("a tab after the hyphens at the end of a zone file", piped(ONE, ORE) + b"--\t",
      "file 0 row 3 column whole: Width"),
-    ("a blank behind the hyphens, and a cut", ONE + b"-- \r\n--\n" + ORE, "plan row 7: Key"),
+    ("a blank after the hyphens, and a cut", ONE + b"-- \r\n--\n" + ORE, "plan row 7: Key"),
     ("three hyphens in a plan", ONE + b"---\n" + ORE, "plan row 7: Key"),
     ("four hyphens in a plan", ONE + b"----\n" + ORE, "plan row 7: Key"),
     ("three cuts in a row", THREE + b"--\n--\r\n--\n", "file 0 row 1 column x: MissingColumn"),
-    ("a cut at the front", b"--\n" + ONE, "plan row 1: Missing"),
+    ("a cut at the start", b"--\n" + ONE, "plan row 1: Missing"),
     ("a byte order mark before the hyphens", MARK + b"--\n" + ONE, "plan row 1: Key"),
-    ("CR behind the hyphens at the end", ONE + b"--\r", "plan row 7: Key"),
-    ("CR CR LF behind the hyphens", ONE + b"--\r\r\n", "plan row 7: Key"),
+    ("CR after the hyphens at the end", ONE + b"--\r", "plan row 7: Key"),
+    ("CR CR LF after the hyphens", ONE + b"--\r\r\n", "plan row 7: Key"),
     *(
         (name, piped(ONE, zone_file(line)), "file 0 row 2 column " + fault)
         for name, line, fault in [
             ("hyphens at a line's end", "0,0,0,1,0--", "grade: Number"),
-            ("hyphens at a line's front", "--0,0,0,1,0", "x: Number"),
+            ("hyphens at a line's start", "--0,0,0,1,0", "x: Number"),
             *((f"the line {line!r}", line, "whole: Width") for line in [
                 "-", "---", "-- ", " --", "--\t", "\t--", "--  ", "- -", "__", "==", '"--"', "'--'",
                 '--""', "\u2013", "\u2014", "\u2013\u2013", "\u2212\u2212", "\u00ad\u00ad", "--#",
@@ -302,7 +302,7 @@ def many_pieces(count):
     last = count - 1
     blocks = (f"{block} {block + 1} 0 0 1 {last - block} {last - block}|" for block in range(count))
     part = Part(lines("== blocks|" + "".join(blocks) + "== prec|"))
-    return Trial(f"pieces: {count}", given=piped(zones(count), *pieces), out=part)
+    return Trial(f"parts: {count}", given=piped(zones(count), *pieces), out=part)
 
 
 # The coefficients of many_coefficients for five blocks and two resources, worked out manually.

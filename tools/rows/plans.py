@@ -83,7 +83,7 @@ CELLS = [
     limited(2, BETWEEN, SMALLEST, LARGEST),
 ]
 
-# Keys, and how many cells their records may have, the key counted, of the first 40; every other cell is `?`, so the kind tells which cell
+# Keys, and how many cells their records may have, the key counted, of the first 40; every other cell is `?`, so the kind shows which cell
 # is checked first. The fourth cell of a `limit` decides on its width.
 WIDTHS = [
     ("name", [2], "Name"),
@@ -131,7 +131,7 @@ FAULTS = [
     ("rate,0|", "Twice", "rate,1"),
     ("rate,0|", "Range", "rate,1.1"),
     ("rate,0|", "Number", "rate,x"),
-    # as many zones as allowed, and a 65th, which is checked first
+    # the largest number of zones, and a 65th, which is checked first
     (SIXTY_FOUR_ZONES, "Missing", ""),
     (SIXTY_FOUR_ZONES, "TooMany", "zone,1,1,1|", "zone,1,1,1,1,1,1,1,1,1"),
     (SIXTY_FOUR_ZONES, "Range", "zone,1,1,0"),
@@ -449,21 +449,21 @@ MARKED = [
 MOST = 1_048_576
 
 LENGTHS = [
-    ("as many as there may be", WASTE.ljust(MOST, b"\n"), TAKEN),
-    ("as many, of which three are a mark", MARK + WASTE.ljust(MOST - 3, b"\n"), TAKEN),
-    ("one more", WASTE.ljust(MOST + 1, b"\n"), TOO_LONG),
-    ("one more, of which three are a mark", MARK + WASTE.ljust(MOST - 2, b"\n"), TOO_LONG),
+    ("the largest number", WASTE.ljust(MOST, b"\n"), TAKEN),
+    ("the largest number, of which three are a mark", MARK + WASTE.ljust(MOST - 3, b"\n"), TAKEN),
+    ("one too many", WASTE.ljust(MOST + 1, b"\n"), TOO_LONG),
+    ("one too many, of which three are a mark", MARK + WASTE.ljust(MOST - 2, b"\n"), TOO_LONG),
     ("three more, the mark", MARK + WASTE.ljust(MOST, b"\n"), TOO_LONG),
-    ("one more, a faulty record", b"pit\n".ljust(MOST + 1, b","), TOO_LONG),
+    ("one too many, an invalid record", b"pit\n".ljust(MOST + 1, b","), TOO_LONG),
 ]
 
 MANY = [
     ("10,000", EMPTY * 9_994 + WASTE, TAKEN),
     ("10,000 and blank lines", EMPTY * 9_994 + WASTE + b"\n\r\n\n", TAKEN),
-    ("10,000 of which the last is faulty", EMPTY * 9_999 + b"pit\n", "row 10000: Key"),
+    ("10,000 of which the last is invalid", EMPTY * 9_999 + b"pit\n", "row 10000: Key"),
     ("10,000 and something is missing", EMPTY * 10_000, "row 10001: Missing"),
     ("10,001 of which the last is empty", EMPTY * 9_994 + WASTE + EMPTY, TOO_MANY),
-    ("10,001 of which the last is faulty", EMPTY * 10_000 + b"pit\n", TOO_MANY),
+    ("10,001 of which the last is invalid", EMPTY * 10_000 + b"pit\n", TOO_MANY),
     ("10,001 of which the last is what is missing", EMPTY * 9_995 + WASTE, TOO_MANY),
     ("10,002", EMPTY * 10_002, TOO_MANY),
 ]
@@ -510,7 +510,7 @@ def faults_of_cells(before, key, cells):
                 if len(cells) > 1:
                     yield report_of("cells_of_a_plan", with_cell(cells, at, text), kind)
     for texts, kind in pairs_of_faults(cells):
-        yield report_of("two_faulty_cells", texts, kind)
+        yield report_of("two_invalid_cells", texts, kind)
     for texts, kind in two_kinds_of_faults(cells):
         yield report_of("two_kinds_of_faults", texts, kind)
 

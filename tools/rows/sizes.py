@@ -125,8 +125,8 @@ def too_long():
     yield refused(name, "file 1: TooLong", arguments=arguments, files=files)
     files["ore"] = HEADER + b"0,0,0,1,?\n"
     line = "file 0 row 2 column grade: Number"
-    yield refused("a faulty file before one that is too long", line, arguments=arguments, files=files)
-    name, arguments = "a file that is too long before a faulty one", compiles("long", "ore")
+    yield refused("an invalid file before one that is too long", line, arguments=arguments, files=files)
+    name, arguments = "a file that is too long before an invalid one", compiles("long", "ore")
     yield refused(name, "file 0: TooLong", arguments=arguments, files=files)
     marked = (MARK + b"x,y,z,tonnes,grade\n").ljust(MOST + 1, b"\n")
     name, files = "a file of blank lines, one byte too long", {"plan": ONE, "long": marked}
@@ -164,14 +164,14 @@ def five_million_blocks(name):
 
 
 def many_arguments():
-    """As many zone files as a plan may name, without a number of valuers, and extra arguments."""
+    """The largest number of zone files that a plan may name, without a number of valuers, and extra arguments."""
     zones = {f"z{zone}": rows([(zone, 0, 0)]) for zone in range(64)}
     files, names = {"plan": plan_of(64), **zones}, list(zones)
     left = at("b", plain_texts(*files.values()))
-    name = "sixty_four_files by as many valuers as are not asked for"
+    name = "sixty_four_files by the usual number of valuers"
     yield Trial(name, arguments=compiles(*names), files=files, out=b"rows 64\n", left=left)
     line, arguments = "file 64: FeedFailed", [*compiles(*names), "none"]
-    yield refused("as many zone files as zones, and one that is not there", line, arguments=arguments, files=files)
+    yield refused("a zone file for each zone, of which one is not there", line, arguments=arguments, files=files)
     for count in (90, 300, 450):
         arguments = compiles(*(names[zone % 64] for zone in range(count)))
         name = f"{count} zone files for 64 zones"

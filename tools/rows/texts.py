@@ -547,9 +547,9 @@ TAKEN = [
         ["NPERIODS: 3" if line == "NPERIODS: 2" else line for line in put(
             "NRESOURCE_SIDE_CONSTRAINTS", "NRESOURCE_SIDE_CONSTRAINTS: 2").of(CPIT)]
         + ["0 2 L 5", "1 0 L 5", "1 2 I 5 5"]), "blocks 2 arcs 1 coefficients 1 limits 2 cpit 1"),
-    ("spelled_numbers: eleven blocks", (ELEVEN_BLOCKS, ELEVEN_PREC, ELEVEN_PCPSP, ELEVEN_CPIT),
+    ("written_numbers: eleven blocks", (ELEVEN_BLOCKS, ELEVEN_PREC, ELEVEN_PCPSP, ELEVEN_CPIT),
      "blocks 11 arcs 3 coefficients 3 limits 3 cpit 2"),
-    ("spelled_numbers: as much as a plan may hold, in lines that end in CR LF",
+    ("written_numbers: as much as a plan may hold, in lines that end in CR LF",
      [fullest.TEXTS[ending].replace(b"\n", b"\r\n") for ending in CHECKED], fullest.COUNTS),
     ("many_predecessors: 8,192", many_predecessors(8_192),
      "blocks 8193 arcs 8192 coefficients 0 limits 0"),
@@ -751,12 +751,12 @@ def header_key(of, number, line):
     others, name = without(number).of(of.good), f"keys_that_lack: {key}"
     yield of.result_of(name, others, of.head, "Missing")
     changed = put(of.head, others[of.head - 1] + " 1").of(others)
-    yield of.result_of(f"{name}, and a field behind the section", changed, of.head, "Fields")
+    yield of.result_of(f"{name}, and a field after the section", changed, of.head, "Fields")
     for other in [line, f"{key}: ?", f"{key}:", f"{key}: 1 2"]:
         changed = before(of.head + 1, other)
         yield of.result_of(f"keys_twice: {other}", changed, of.head + 1, "Twice")
     for later in range(of.head + 2, of.head + 5):
-        name = f"keys_behind_sections: {key} as line {later}"
+        name = f"keys_after_sections: {key} as line {later}"
         yield of.result_of(name, before(later, line), later, "Key")
     for place in {1, of.head} - {number}:
         name = f"keys_in_any_order: {key} as line {place}"
@@ -788,7 +788,7 @@ def words_of_headers(of):
     for name in ("NAME", "..", "a..b", "periods", "1.5", "EOF"):
         yield of.result_of(f"names_of_instances: {name}", put("NAME", f"NAME: {name}"))
     far = put("NAME", "NAME:" + " " * 1_000_000 + "one")
-    yield of.result_of("a_name_behind_a_million_blanks", far)
+    yield of.result_of("a_name_after_a_million_blanks", far)
     right = of.file.upper()
     wrong = [right.lower(), right.title(), right[:-1], right[1:], right + "S", "UPIT", "?"]
     for other in [*wrong, "PCPSPCPIT".replace(right, "")]:
@@ -814,7 +814,7 @@ def bytes_of_lines():
         else:
             yield results(f"bytes_before_fields: {byte}", line, place, kind)
         kind = None if byte in BLANKS + b"\n\r.0123456789" else "Number"
-        yield results(f"bytes_behind_fields: {byte}", b"1 1 0 0 0 7 0" + byte, place, kind)
+        yield results(f"bytes_after_fields: {byte}", b"1 1 0 0 0 7 0" + byte, place, kind)
         line, kind = b"% " + byte + b"x\n1 1 0 0 0 7 0", "Fields" if byte == b"\n" else None
         yield results(f"bytes_of_a_remark: {byte}", line, "blocks line 3", kind)
 
@@ -950,7 +950,7 @@ def late_lines():
             name = f"late_lines: {file}, {count} {skipped!r}"
             yield invalid(name, changed, f"{file} line {count + 1}: {kind}")
         changed = [*texts[:number], text + b"\n" * count + b"x\n", *texts[number + 1 :]]
-        name, place = f"late_lines: {count} behind {file}", len(text.splitlines()) + count + 1
+        name, place = f"late_lines: {count} after {file}", len(text.splitlines()) + count + 1
         yield invalid(name, changed, f"{file} line {place}: Fields")
 
 

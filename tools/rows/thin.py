@@ -133,7 +133,7 @@ def of_zones():
     yield thinned("four slopes", ["1,1,2,1,1,2,3,2,6"], [whole])
     yield thinned("flat blocks", ["1,2,6"], [box(range(7), range(7), range(4))], (20, 20, 10))
     beside = [box(range(3), range(6), range(5)), box(range(3, 6), range(6), range(5))]
-    yield thinned("unlike slopes and K beside one another", ["1,1,2", "2,1,5"], beside)
+    yield thinned("unlike slopes and K next to one another", ["1,1,2", "2,1,5"], beside)
     over = [box(range(6), range(6), range(3)), box(range(6), range(6), range(3, 6))]
     yield thinned("unlike slopes and K above one another", ["1,1,5", "2,1,2"], over)
     yield thinned("the flatter zone above", ["2,1,4", "1,2,3"], over)
@@ -164,7 +164,7 @@ UNLIKE_CONES = [
     ("a column of K = 3 below K = 1", ["1,1,3", "1,1,1"], [COLUMN[:1], COLUMN[1:]], [1], [1]),
     ("a column of K = 1 below K = 3", ["1,1,1", "1,1,3"], [COLUMN[:1], COLUMN[1:]], [1], [1]),
     ("a column, K = 3 and 1 by turns", ["1,1,3", "1,1,1"], [COLUMN[::2], COLUMN[1::2]], [1], [1]),
-    ("behind two that are dropped", ["1,1,4", "1,1,1"], [COLUMN[:1], [*COLUMN[1:], (0, 0, 4)]], [1], [1]),
+    ("after two that are dropped", ["1,1,4", "1,1,1"], [COLUMN[:1], [*COLUMN[1:], (0, 0, 4)]], [1], [1]),
     ("a hole over K = 1", ["1,1,3", "1,1,1"], [COLUMN[:1], [COLUMN[1], COLUMN[3]]], [1, 2], [1, 2]),
     ("a way out of a steep cone and back", ["10,1,3", "1,2,1"], [COLUMN[:1], [COLUMN[1], (1, 0, 2), COLUMN[3]]], [1, 3], [1]),
 ]
@@ -186,7 +186,7 @@ def of_unlike_cones():
             ("two layers, turned round", ["1,1,6", "3,1,6"], lambda place: int(place[2] > 3)),
             ("three layers", ["1,2,7", "1,1,3", "3,1,5"], lambda place: place[2] // 3),
             ("K = 7 below K = 1", ["1,1,7", "1,1,1"], lambda place: int(place[2] > 1)),
-            ("beside one another", ["1,1,2", "2,1,6"], lambda place: int(place[0] > 3)),
+            ("next to one another", ["1,1,2", "2,1,6"], lambda place: int(place[0] > 3)),
             ("in quarters", ["1,1,6", "2,1,3", "1,2,2", "1,1,1"], lambda place: 2 * int(place[0] > 3) + int(place[1] > 2)),
             ("K = 1 and 6 by turns", ["1,1,1", "1,1,6"], lambda place: place[2] % 2),
             ("K = 6, 1 and 3 by turns", ["1,1,6", "1,1,1", "1,1,3"], lambda place: place[2] % 3),
@@ -337,7 +337,7 @@ def of_holes():
 def of_many_neighbourhoods():
     """Different cones so wide that few blocks have neighbours like those of others."""
     places = box(range(14), range(14), range(12))
-    for name, zone_of in [("by turns", lambda place: place[2] % 3), ("beside one another", lambda place: place[0] // 5)]:
+    for name, zone_of in [("by turns", lambda place: place[2] % 3), ("next to one another", lambda place: place[0] // 5)]:
         zones = [[place for place in places if zone_of(place) == zone] for zone in range(3)]
         yield thinned(f"many neighbourhoods: {name}", ["1,2,12", "1,1,12", "2,1,12"], zones, sizes=(15, 15, 12))
 
@@ -376,7 +376,7 @@ def of_windows():
             yield thinned(f"windows: one block {far} to the {side}, of another cone", [flat, "3,1,1"], [low, [(x, 0, 1), (x, 0, 2)]])
     for cells in ("1,1,20", "1,3,20", "1,1000,20"):
         yield thinned(f"windows: one block a row, {cells}", [cells], [box([0], range(30), range(8))])
-        yield thinned(f"windows: benches left out, {cells}", [cells], [box(range(70), [0], [0, 3, 9, 19, 20, 21])])
+        yield thinned(f"windows: missing benches, {cells}", [cells], [box(range(70), [0], [0, 3, 9, 19, 20, 21])])
         corners = box([0, 1, 9998, 9999], [0, 9999], [0, 1, 19, 20, 21, 9999])
         yield thinned(f"windows: corners of the grid, {cells}", [cells], [corners])
     yield thinned("windows: one bench", ["1,5,3"], [box(range(130), range(2), [9])])

@@ -156,7 +156,7 @@ def of_words():
     for line, arguments in rows_of_compile.REPORTED:
         if arguments[0] == "compile":
             arguments = arguments[1:]
-            yield refused(f"words that are taken, and told: {arguments}", line, arguments=arguments, files=files)
+            yield refused(f"arguments that are accepted, and reported: {arguments}", line, arguments=arguments, files=files)
     yield from rows_of_compile.of_each_word(1)
     yield refused("words that are not UTF-8", "command line: NotUtf8", arguments=[b"--plan", b"\xFF"], files=files)
 

@@ -105,7 +105,7 @@ class Trial(NamedTuple):
         return self
 
     def input(self):
-        """Returns a number that tells its arguments, files and standard input from those of other runs."""
+        """Returns a number of its arguments, files and standard input, which differs for other runs."""
         arguments, before = tuple(self.arguments), tuple(map(tuple, self.before))
         return hash((arguments, self.given, self.source, frozenset(self.files.items()), before))
 

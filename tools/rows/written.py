@@ -436,7 +436,7 @@ def all_limits():
         resources = "".join(f"resource,{name},d|" for name in "hgfedcba"[-count:])
         plan = small("dump,d,1|", f"periods,{periods}|rate,0|{resources}{of_plan}")
         part = f"RESOURCE_CONSTRAINT_LIMITS:|{written}"
-        name = "all_limits" if count == 8 else "all_limits, a few by hand"
+        name = "all_limits" if count == 8 else "all_limits, a few worked out manually"
         yield shows(name, plan, ONE_BLOCK, part + "== cpit|", part)
     counts = "blocks 1 arcs 0 coefficients 8 limits 800 cpit 8"
     yield arcs_of("all_limits, checked", counts, plan, HEADER + ONE_BLOCK)

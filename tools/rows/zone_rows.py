@@ -24,7 +24,7 @@ CELLS = [
     Cell("1", 6, 0, 10**12),
 ]
 
-# What is no name of a column: each name with a letter less and with one more.
+# What is no name of a column: each name without one letter, and with an extra one.
 NO_COLUMNS = {
     "x": ["xc", "x y", "#x", "x:", "xyz", "easting", "0", ""],
     "y": ["yc", "\u00fd", "northing"],
@@ -75,7 +75,7 @@ FILES = [
     ("empty_file: a mark", MARK, NO_X),
     ("header_alone", HEADER, ""),
     ("header_faults: a column is missing", b"x,y,z,tonnes", NO_GRADE),
-    ("header_faults: a column stands twice", b"x,y,X,tonnes", "row 1 column x: TwiceColumn"),
+    ("header_faults: a column is there twice", b"x,y,X,tonnes", "row 1 column x: TwiceColumn"),
     # One byte order mark is dropped, and no second one.
     ("header_faults: two marks", MARK + MARK + b"x,y,z,tonnes,grade", NO_X),
     ("quoted_and_reordered", OTHER_ORE, "0 0 0 0 1000 5000 0|"),
@@ -320,11 +320,11 @@ FULL, TOO_MANY = MOST_ROWS + b"0,0,0,1,0\n", "row 1000002 column whole: TooManyR
 SHORT = HEADER + b"0,0,0,1\n" + b"0,0,0,1,0\n" * 1_000_001
 
 MOST = [
-    ("the last one is faulty", MOST_ROWS + b"0,0,0,1", "row 1000001 column whole: Width"),
+    ("the last one is invalid", MOST_ROWS + b"0,0,0,1", "row 1000001 column whole: Width"),
     ("a row too many", FULL + b"0,0,0,1,0\n", TOO_MANY),
-    ("a faulty row too many", FULL + b"0,0,0,1,?\n", TOO_MANY),
+    ("an invalid row too many", FULL + b"0,0,0,1,?\n", TOO_MANY),
     ("a short row too many", FULL + b"0\n", TOO_MANY),
-    ("rows too many, the first faulty", SHORT, "row 2 column whole: Width"),
+    ("rows too many, the first invalid", SHORT, "row 2 column whole: Width"),
 ]
 
 
@@ -407,7 +407,7 @@ def faults():
         for order in [range(5), range(4, -1, -1)]:
             rows = (",".join(row[at] for at in order) for row in (COLUMNS, cells))
             text = "\n".join(rows).encode()
-            yield invalid(f"two_faulty_cells: {text}", text, column, kind, 2, MILLIMETRES)
+            yield invalid(f"two_invalid_cells: {text}", text, column, kind, 2, MILLIMETRES)
     for cells, kind in two_kinds_of_faults(CELLS):
         at = next(at for at, cell in enumerate(CELLS) if cells[at] != cell.good)
         text = HEADER + ",".join(cells).encode()
@@ -420,7 +420,7 @@ def faults():
         row = ",".join(["?"] * count).encode()
         yield invalid(f"width_of_a_row: {count} cells", HEADER + row, "whole", "Width", 2)
     longer = HEADER + b"0,0,0,1,0,\n"
-    yield invalid("width_of_a_row: an empty cell behind", longer, "whole", "Width", 2)
+    yield invalid("width_of_a_row: an empty cell after", longer, "whole", "Width", 2)
     wider = b"x,y,z,tonnes,grade,\n0,0,0,1,0"
     yield invalid("width_of_a_row: an empty column", wider + b"\n", "whole", "Width", 2)
     yield reports("width_of_a_row: an empty column and cell", wider + b",\n", "0 0 0 0 1 0 0|")
@@ -484,7 +484,7 @@ def wide_files():
         for what, last, result in [
             ("good", "", TWO),
             ("a cell more", ",1", "row 3 column whole: Width"),
-            ("a faulty cell", None, "row 3 column grade: Number"),
+            ("an invalid cell", None, "row 3 column grade: Number"),
         ]:
             if last is None:
                 rows = list(wide(columns, at, [0, 0, 0, 1, 2], [10, 0, 0, 3, "x"]))
