@@ -6,7 +6,7 @@ from typing import Dict, Iterator, List, NamedTuple, Sequence, Tuple
 import shared
 from traced import Record, Used
 
-INPUT, OUTPUT = "O_RDONLY|O_NOCTTY|O_CLOEXEC", "O_WRONLY|O_CREAT|O_NOCTTY|O_TRUNC|O_CLOEXEC"
+INPUT, OUTPUT = "O_RDONLY|O_NOCTTY|O_CLOEXEC", "O_WRONLY|O_CREAT|O_NOCTTY|O_TRUNC|O_CLOEXEC, 0666"
 
 # The most bytes that an input may have (docs/formats.md).
 MOST = {"plan": 1 << 20, "file": 1 << 28, "input": 1 << 28}
@@ -196,6 +196,8 @@ class Judged:
                 yield f"{len(used.calls)} calls for {used.total} bytes of {name}"
             if used.total > MOST.get(name.split()[0], used.total) + 1:
                 yield f"{used.total} bytes read of {name}"
+            if used.opened is None and used.closed:
+                yield f"{name} is closed"
         if (self.record.streams[0].calls or self.record.asks_place) and not self.may.is_stream:
             yield "standard input is read"
 

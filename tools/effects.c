@@ -98,6 +98,8 @@ int open(const char *path, int flags, ...) {
     if (first("creates-early")) close(open_or_fail("base.blocks", O_WRONLY | O_CREAT | O_CLOEXEC, 0666));
     if (creates && first("writes-a-log")) close(open_or_fail("../pitc.log", O_WRONLY | O_CREAT | O_CLOEXEC, 0666));
     if (creates && is("removes")) unlink(path);
+    if (creates && is("creates-for-all")) rights = 0777;
+    if (first("closes-a-stream")) close_or_fail(0);
     if (is("looks-first")) { struct stat of_it; stat(path, &of_it); }
     if (first("connects")) close(socket(AF_INET, SOCK_STREAM, 0));
     if (first("forks") && !vfork()) _exit(0);

@@ -98,7 +98,7 @@ def calls_in(trace: str) -> List[Call]:
 
 
 class Used:
-    """A file that was to be opened, or a standard stream, and what was done with it."""
+    """A file that was to be opened, or a standard stream, and what was done with it. `flags` has the rights of a new file after a comma."""
 
     def __init__(self, path: bytes, flags: str, opened: Optional[Call]):
         self.path, self.flags, self.opened = path, flags, opened
@@ -207,7 +207,7 @@ class Record:
 
     def open(self, call: Call) -> str:
         """Records the opening of a file."""
-        found = re.match(r'([^,]*), "([^"]*)", ([^,]*)', call.args)
+        found = re.match(r'([^,]*), "([^"]*)", (.*)', call.args)
         assert found, call
         path, flags = bytes_of(found[2]), found[3]
         used = Used(path, flags, call)
