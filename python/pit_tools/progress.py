@@ -55,7 +55,7 @@ class _Steps:
         self.drawn = _made(desc=name, total=total, bar_format=_STEPS)
         self.begun = 0
 
-    def tell(self, count: Optional[int], what: str) -> None:
+    def report(self, count: Optional[int], what: str) -> None:
         """Shows the number of finished steps, if that is given, and a text."""
         if self.drawn is not None:
             self.drawn.n = self.drawn.n if count is None else min(count, self.drawn.total)
@@ -82,7 +82,7 @@ def step(what: str) -> None:
     """Begins the next step and counts those before it as done."""
     one = _Steps.now
     if one is not None:
-        one.tell(one.begun, what)
+        one.report(one.begun, what)
         one.begun += 1
 
 
@@ -91,13 +91,13 @@ def done(what: str) -> None:
     one = _Steps.now
     if one is not None:
         one.begun += 1
-        one.tell(one.begun, what)
+        one.report(one.begun, what)
 
 
-def tell(what: str) -> None:
+def report(what: str) -> None:
     """Shows what the current step does now."""
     if _Steps.now is not None:
-        _Steps.now.tell(None, what)
+        _Steps.now.report(None, what)
 
 
 @contextmanager
@@ -119,7 +119,7 @@ class Growth:
         self.drawn: Optional[tqdm] = None
         self.name = ""
 
-    def tell(self, name: str, count: int, total: Optional[int] = None) -> None:
+    def report(self, name: str, count: int, total: Optional[int] = None) -> None:
         """Shows the current number of bytes, in a separate bar for each name."""
         if self.drawn is None or name != self.name:
             self.close()

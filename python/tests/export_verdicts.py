@@ -3,7 +3,7 @@
     python3 export_verdicts.py [--all]      the table, or the wrong ones and the counts
 
 An export is right if its arguments give the blocks of its mine without a line that names a
-mistake; reported ('told') if they do and the report has that line; refused if they stop with
+mistake; reported ('reported') if they do and the report has that line; refused if they stop with
 its own cause, also if changed arguments then give its mine. All else is wrong: another mine,
 or another cause."""
 from __future__ import annotations
@@ -59,15 +59,15 @@ def verdict_of(export: Export) -> Verdict:
     if export.rejected:
         try:
             text = "\n".join(f"- {one}" for one in imported(export, **export.first).report.doubts)
-            outcome = "told"
+            outcome = "reported"
         except UserError as error:
             text, outcome = str(error), "refused"
         line = line_with(export.rejected, text)
         if not line:
             return Verdict(export.name, "wrong", f"no {export.rejected} in: {text}")
     if not export.rows:
-        if outcome == "told":
-            return Verdict(export.name, "wrong", f"another mine, and told alone: {line}")
+        if outcome == "reported":
+            return Verdict(export.name, "wrong", f"another mine, and only reported: {line}")
         return Verdict(export.name, outcome, line)
     try:
         found = imported(export)
@@ -81,7 +81,7 @@ def verdict_of(export: Export) -> Verdict:
     if export.rejected:
         return Verdict(export.name, outcome, line)
     message = export.message[0] if export.message else ""
-    return Verdict(export.name, "told" if message else "right", message and line_with(message, text))
+    return Verdict(export.name, "reported" if message else "right", message and line_with(message, text))
 
 
 def line_with(pattern: str, text: str) -> str:
@@ -138,7 +138,7 @@ def main() -> int:
             if "--all" in sys.argv or verdict.outcome == "wrong":
                 print(f"{kind:8} {verdict.outcome:8} {verdict.name:60.60} {verdict.line[:200]}",
                       flush=True)
-    outcomes = ("right", "told", "refused", "wrong")
+    outcomes = ("right", "reported", "refused", "wrong")
     print(f"{'':8}" + "".join(f"{outcome:>9}" for outcome in outcomes))
     for kind, found in counts.items():
         print(f"{kind:8}" + "".join(f"{found[outcome]:>9}" for outcome in outcomes))

@@ -281,7 +281,7 @@ def test_what_solvers_find_is_judged(here, capsys):
         ("status 0", "feasible", "6.73", "yes"), ("status 0", "feasible", "3.00", "no"),
         ("status 0", "violated", "5.00", "no"), ("status 0", "unreadable", "", "no"),
         ("status 1", "none", "", "no"), ("status 0", "feasible", "6.73", "yes")]
-    assert [found[name, "mine"]["told"] for name in NAMES] == [
+    assert [found[name, "mine"]["message"] for name in NAMES] == [
         "", "", "block 0 is mined in period 0, before block 1",
         "{out}: line 1: no period below 2: `0 9`", "nothing is found", ""]
     # The relaxation takes 3 and the half of 5 - 1 in period 0, the other half in period 1.
@@ -396,7 +396,7 @@ def test_a_schedule_of_endless_lines_is_none(here, monkeypatch):
     monkeypatch.setattr("pit_tools.schedules.files.MOST_LINES", 1000)
     command = f"mine={sys.executable} -c 'open(\"{{out}}\", \"w\").write(\"0 0 0\\n\" * 1001)'"
     assert main(["bench", "LIST", "--solver", command, "--bounds", "0"]) == 0
-    assert {(row["schedule"], row["told"]) for row in rows()} == {
+    assert {(row["schedule"], row["message"]) for row in rows()} == {
         ("unreadable", "{out}: line 1001: it has more than 1,000 lines: give one for each block, "
                        "period and destination")}
 

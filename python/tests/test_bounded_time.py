@@ -33,7 +33,7 @@ from pit_tools.plans.zone_files import read_zone_file
 from pit_tools.schedules.files import read_schedule, read_variables
 from pit_tools.texts import lines
 from pit_tools.texts.formulas import formula_of
-from pit_tools.texts.lines import Told
+from pit_tools.texts.lines import Changes
 
 # Characters of a small text and of a large one. A reader whose time grows with the square of the
 # size takes 256 times as long for the large one, and by the margin it may take 80 times.
@@ -237,8 +237,8 @@ ONE = Problem("PCPSP", "a", 2, 0, 0.1, np.zeros((1, 1)), Uses(*[np.empty(0, int)
 def published(kind):
     """A reader of published models."""
     if kind == "UPIT":
-        return lambda path: models.read_upit(path, 0, True, Told())
-    return lambda path: models.read_model(path, kind, 0, None, True, Told())
+        return lambda path: models.read_upit(path, 0, True, Changes())
+    return lambda path: models.read_model(path, kind, 0, None, True, Changes())
 
 
 #: What reads a file of lines, and what surrounds a hostile text.
@@ -251,9 +251,9 @@ READERS = {
     "pcpsp": (lambda path: files.read_problem(path, "PCPSP"), "{}", PCPSP + "{}\n",
               PCPSP.replace("0.1", "{}"), PCPSP.replace("0 0 0 1\n", "0 0 0 {}\n")),
     "outline": (models.read_outline, PCPSP + "0 0 L {}\n"),
-    "published blocks": (lambda path: block_files.read_columns(path, block_files.Columns(5), Told()),
+    "published blocks": (lambda path: block_files.read_columns(path, block_files.Columns(5), Changes()),
                          "{}", "0 0 0 0 1\n1 1 0 0 {}\n"),
-    "published prec": (lambda path: minelib.read_precedence(path, 2, 0, Told()), "{}", "0 1 {}\n"),
+    "published prec": (lambda path: minelib.read_precedence(path, 2, 0, Changes()), "{}", "0 1 {}\n"),
     "published upit": (published("UPIT"), "{}", UPIT, UPIT.replace("NBLOCKS: 1", "NBLOCKS: {}"),
                        UPIT.replace("NBLOCKS", "{}")),
     "published cpit": (published("CPIT"), "{}", CPIT + "0 0 L {}\n"),
@@ -323,7 +323,7 @@ def test_a_line_of_a_zone_file_has_a_measure(tmp_path):
 
 # Files of JSON, and records
 
-@pytest.mark.parametrize("text", ["[" * (1 << 20), " " * (1 << 25) + "{}", '{"told": 1' + "1" * 5000],
+@pytest.mark.parametrize("text", ["[" * (1 << 20), " " * (1 << 25) + "{}", '{"facts": 1' + "1" * 5000],
                          ids=["nested", "padded", "digits"])
 def test_a_file_of_json_has_a_measure(tmp_path, text):
     path = tmp_path / "from.json"

@@ -315,7 +315,7 @@ def test_a_workbook_that_grows_beyond_all_measure_is_rejected(here, capsys, monk
     ("grid", {"origin": ["0", "0", "0"], "size": ["NaN", "1", "1"], "blocks": [1, 1, 1]}),
     ("grid", {"origin": ["0", "0", "0"], "size": ["1", "0", "1"], "blocks": [1, 1, 1]}),
     ("grid", {"origin": ["0", "0", "0"], "size": ["1", "1", "1"], "blocks": ["a", 1, 1]}),
-    ("frame", {"lengths": [1, 1], "turn": None, "unit": "m"}), ("told", 7)])
+    ("frame", {"lengths": [1, 1], "turn": None, "unit": "m"}), ("facts", 7)])
 def test_a_record_of_an_import_that_was_changed_is_reported(here, capsys, key, value):
     assert main(["import", "export.csv", *WORDS, "--out", "from"]) == 0
     message = json.loads((here / "from.json").read_text())

@@ -12,7 +12,7 @@ EXPORTS = [export for made in KINDS.values() for export in made()]
 def test_an_export_is_right_reported_or_rejected_with_its_cause(export, tmp_path, monkeypatch):
     monkeypatch.chdir(tmp_path)
     verdict = verdict_of(export)
-    assert verdict.outcome in ("right", "told", "refused"), verdict.line
+    assert verdict.outcome in ("right", "reported", "refused"), verdict.line
 
 
 def test_each_export_has_a_name_and_a_truth_or_a_cause():

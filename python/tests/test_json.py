@@ -49,7 +49,7 @@ def test_a_survey_has_what_it_prints(here, capsys):
     assert text.startswith(f"{found['name']}: {len(found['rock']) - 1} zones, "
                            f"{len(found['destinations'])} destinations, "
                            f"{len(found['resources'])} resources, {found['periods']} periods\n")
-    assert [f"- {one['part']}: {one['told']}" for one in found["look_at"] + found["notes"]] == [
+    assert [f"- {one['part']}: {one['text']}" for one in found["look_at"] + found["notes"]] == [
         line for line in text.splitlines() if line.startswith("- ")]
     assert found["rock"]["all"]["rows"] == 6 and found["pit"]["blocks"] > 0
 

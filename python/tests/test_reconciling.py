@@ -128,15 +128,15 @@ WRONG = [
 @pytest.mark.parametrize("change, words, message", [one[1:] for one in WRONG],
                          ids=[one[0] for one in WRONG])
 def test_a_wrong_mine_stops_with_its_zone_and_cause(change, words, message, tmp_path):
-    told = error_of(tmp_path, TRUE, rows_of(change) if change else None, **words)
-    assert re.search(message, told), told
-    assert told.startswith("report.csv: line ")
+    error = error_of(tmp_path, TRUE, rows_of(change) if change else None, **words)
+    assert re.search(message, error), error
+    assert error.startswith("report.csv: line ")
 
 
 def test_a_report_in_kilotonnes_is_reported(tmp_path):
-    told = error_of(tmp_path, "zone,tonnes\nwest,162\n")
-    assert "west has tonnes of 162 t, but the model 162,000, x 1,000: that is 1,000 times" in told
-    assert "or a report in kilotonnes" in told
+    error = error_of(tmp_path, "zone,tonnes\nwest,162\n")
+    assert "west has tonnes of 162 t, but the model 162,000, x 1,000: that is 1,000 times" in error
+    assert "or a report in kilotonnes" in error
 
 
 def test_blocks_of_another_size_are_reported_by_their_volume(tmp_path):
@@ -147,8 +147,8 @@ def test_blocks_of_another_size_are_reported_by_their_volume(tmp_path):
 def test_a_mirrored_mine_is_reported_by_its_extents(tmp_path):
     report = "zone,tonnes,xmin,xmax,ymin,ymax\nwest,162000,0,40,0,50\n"
     reconciled(tmp_path, report).reconciliation.judge()
-    told = error_of(tmp_path, report, x="Y", y="X")
-    assert "west has x max of 40.00, but the model 50.00, +10.00" in told
+    error = error_of(tmp_path, report, x="Y", y="X")
+    assert "west has x max of 40.00, but the model 50.00, +10.00" in error
 
 
 def test_rock_without_a_grade_that_the_report_leaves_out_is_no_difference(tmp_path):

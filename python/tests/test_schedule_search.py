@@ -125,7 +125,7 @@ def ending():
 
 
 def printing():
-    print("told by a library")
+    print("printed by a library")
     return np.arange(10**6)
 
 

@@ -318,7 +318,7 @@ def test_the_text_is_the_program(tmp_path, kind, options):
     names = program.names.list()
     assert objective == pytest.approx({name: value for name, value in zip(names, program.objective)
                                        if value}, abs=1e-6)
-    assert whole == {name for name, is_complete in zip(names, program.whole) if is_complete}
+    assert whole == {name for name, is_complete in zip(names, program.is_integer) if is_complete}
     wanted = []
     for row, low, high in zip(program.rows.toarray(), program.lower, program.upper):
         part = {names[at]: row[at] for at in np.flatnonzero(row)}

@@ -87,8 +87,8 @@ def lp_by_terms(program):
                         for letter, sign, side in sides)
     text += "" if len(program.lower) else f" l0: 0 {names[0]} <= 0\n"
     text += "Bounds\n" + "".join(f" 0 <= {name} <= 1\n" for name in
-                                 np.array(names)[~program.whole])
-    binary = "".join(f" {name}\n" for name in np.array(names)[program.whole])
+                                 np.array(names)[~program.is_integer])
+    binary = "".join(f" {name}\n" for name in np.array(names)[program.is_integer])
     return text + (f"Binary\n{binary}" if binary else "") + "End\n"
 
 

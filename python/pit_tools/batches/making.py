@@ -44,7 +44,7 @@ class Failed:
     """An entry for which a step failed, and its message."""
 
     entry: Any
-    told: str
+    message: str
 
 
 def texts_of(way: Way) -> tuple[str, ...]:
@@ -107,9 +107,9 @@ def _ran(way: Way, words: Sequence[str]) -> str:
     done = subprocess.run(words, capture_output=True, text=True, errors="replace", cwd=way.folder,
                           check=False)
     if done.returncode:
-        told = (done.stderr.strip() or f"status {done.returncode}").splitlines()[-1]
+        printed = (done.stderr.strip() or f"status {done.returncode}").splitlines()[-1]
         step = [os.path.basename(words[0]), *[word for word in words[1:2] if word[0] != "-"]]
-        raise UserError(f"{' '.join(step)}: {told}")
+        raise UserError(f"{' '.join(step)}: {printed}")
     return done.stdout
 
 
@@ -120,11 +120,11 @@ def _measured(entry: Entry, way: Way, base: str) -> list[str]:
     counts = _ran(way, [way.pitc, "check", base]).strip()
     if not way.thin:
         return row_of(entry.name, base, counts, way.seconds)
-    told = _ran(way,
-                [way.thin, "--plan", entry.plan, "--out", f"{base}.thin", *entry.zones]).strip()
-    arcs = re.fullmatch(r"rows \d+ arcs (\d+) of (\d+)", told)
+    printed = _ran(way,
+                   [way.thin, "--plan", entry.plan, "--out", f"{base}.thin", *entry.zones]).strip()
+    arcs = re.fullmatch(r"rows \d+ arcs (\d+) of (\d+)", printed)
     if arcs is None or f" arcs {arcs[2]} " not in f"{counts} ":
-        raise UserError(f"pitc counts `{counts}`, but pitc_thin reports `{told}`")
+        raise UserError(f"pitc counts `{counts}`, but pitc_thin reports `{printed}`")
     return row_of(entry.name, base, counts, way.seconds, int(arcs[1]))
 
 

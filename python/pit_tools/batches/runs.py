@@ -101,7 +101,7 @@ class Batch:
         with closing(engine(partial(make, way=self.way, build=build), entries)) as results:
             for found in results:
                 if isinstance(found, Failed):
-                    self.failed.append(f"{found.entry.plan}: {found.told}")
+                    self.failed.append(f"{found.entry.plan}: {found.message}")
                 else:
                     record.add(found)
                     self.made[found.entry] = found
@@ -186,17 +186,18 @@ class Joining:
                 held.enter_context(locked(real))
             found = [(folder, one) for folder in self.folders for one in recorded_in(folder)]
             build = _common_build(self.folders, [one for _, one in found])
-            whole = self._whole(found)
+            complete = self._complete(found)
             if self.failed:
                 return False
             _judge_old("",
-                       [made.entry for folder, made in whole if not os.path.samefile(folder, ".")],
+                       [made.entry for folder, made in complete
+                        if not os.path.samefile(folder, ".")],
                        (*TEXTS, "thin"))
-            texts = [name for _, made in whole for name in made.sums
+            texts = [name for _, made in complete for name in made.sums
                      if name not in made.entry.inputs]
             renames.clear_leftovers([record_path(""), *TABLES, *texts])
             _remove(TABLES)
-            for folder, made in whole:
+            for folder, made in complete:
                 _copied(folder, made)
                 self.made[made.entry] = made
             with Record(record_path(""), build, False) as record:
@@ -205,14 +206,14 @@ class Joining:
             self.failed += finish(self.list, build, self.made, True)
         return not self.failed
 
-    def _whole(self, found: Sequence[tuple[str, Recorded]]) -> list[tuple[str, Made]]:
+    def _complete(self, found: Sequence[tuple[str, Recorded]]) -> list[tuple[str, Made]]:
         """Returns the folder and the record of each instance of the list; `failed` names the
         missing ones."""
         here, sums = Sums(""), {folder: Sums(folder) for folder in self.folders}
         by_entry: dict[Entry, list[tuple[str, Recorded]]] = {}
         for folder, one in found:
             by_entry.setdefault(one.made.entry, []).append((folder, one))
-        whole = []
+        complete = []
         for entry in self.list.entries:
             message = "no part has it"
             for folder, one in by_entry.get(entry, []):
@@ -223,11 +224,11 @@ class Joining:
                     message = (f"{os.path.join(folder, other)} differs from the one that "
                                f"{one.path} names")
                 if not message:
-                    whole.append((folder, one.made))
+                    complete.append((folder, one.made))
                     break
             if message:
                 self.failed.append(f"{entry.plan}: {message}")
-        return whole
+        return complete
 
 
 def _common_build(folders: Sequence[str], found: Sequence[Recorded]) -> str:

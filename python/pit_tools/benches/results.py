@@ -9,7 +9,7 @@ import pandas as pd
 #: The columns of the table. `gap` is how far the worth is below the bound, and `best` whether the
 #: run ended by itself and nothing better is known.
 COLUMNS = ("name", "solver", "ended", "schedule", "worth", "bound", "bound_of", "gap", "best",
-           "seconds", "cpu_seconds", "megabytes", "host", "told")
+           "seconds", "cpu_seconds", "megabytes", "host", "message")
 
 
 #: The form of numbers in the text: values to cents, gaps to six decimals.

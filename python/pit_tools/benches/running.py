@@ -155,9 +155,11 @@ def _run(task: Task, setting: Setting, solver: Solver) -> dict[str, Any]:
         ran = limited.run(solver.filled(values), scratch, setting.seconds, setting.megabytes)
         with inputs.looking():
             judged = _judged(values, problem, precedence, ran.ended)
-        message = judged.pop("told") or ("" if ran.ended == "status 0" else _last_line(ran.printed))
+        message = judged.pop("message")
+        if not message and ran.ended != "status 0":
+            message = _last_line(ran.printed)
         return {"ended": ran.ended, **judged, "seconds": ran.seconds, "cpu_seconds": ran.cpu,
-                "megabytes": ran.megabytes, "host": platform.node(), "told": message}
+                "megabytes": ran.megabytes, "host": platform.node(), "message": message}
     finally:
         shutil.rmtree(scratch, ignore_errors=True)
 
@@ -169,16 +171,16 @@ def _judged(values: dict[str, str], problem: Any, precedence: Any, ended: str) -
     if place is None and ended == "status 0" and os.path.isfile(values["out"]):
         place = "out"
     if place is None:
-        return {"schedule": "none", "worth": None, "told": ""}
+        return {"schedule": "none", "worth": None, "message": ""}
     try:
         schedule = (read_schedule(values[place], problem) if place == "out"
                     else schedule_of_variables(read_variables(values[place]), problem))
         found = check(schedule, problem, precedence)
     except UserError as error:
         message = str(error).replace(values[place], f"{{{place}}}")
-        return {"schedule": "unreadable", "worth": None, "told": message}
+        return {"schedule": "unreadable", "worth": None, "message": message}
     return {"schedule": "feasible" if found.holds else "violated", "worth": found.worth,
-            "told": "" if found.holds else found.broken[0]}
+            "message": "" if found.holds else found.broken[0]}
 
 
 def _has_content(path: str) -> bool:

@@ -112,7 +112,7 @@ class Bench:
         with closing(engine(step, waiting)) as results:
             for found in results:
                 if isinstance(found, Failed):
-                    self.failed.append(f"{found.entry}: {found.told}")
+                    self.failed.append(f"{found.entry}: {found.message}")
                 else:
                     self.done[found.entry] = found
                     record.add_line({"task": [found.entry.solver, found.entry.name],

@@ -120,7 +120,7 @@ def read_source(source: Source, columns: Columns, reading: Reading, report: Repo
             report.doubts += [*source.doubts(), *hidden_text(source),
                               *places_warnings(columns, source.names)]
         Chunk(table, source, columns, marks, reading).take()
-        progress.tell(f"{reading.counts['rows']:,} rows of {source.path}")
+        progress.report(f"{reading.counts['rows']:,} rows of {source.path}")
     if marks is not None:
         report.facts += _marks_text(marks)
         if not reading.source_at:

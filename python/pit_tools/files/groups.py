@@ -12,7 +12,7 @@ from pit_tools.errors import UserError
 from pit_tools.files import interrupts, records
 from pit_tools.files.inputs import Command, Identity, Program, identity, looking
 from pit_tools.files.kinds import judge_kind
-from pit_tools.files.raw import Raw, whole, with_name
+from pit_tools.files.raw import Raw, complete, with_name
 from pit_tools.files.records import File, Record, status_of
 from pit_tools.files.renames import (Step, Unfinished, alone_in, next_to, created, lies, put_step,
                                      remove, said, sync_folder, take_rights)
@@ -161,7 +161,7 @@ class Group:
             if text is None:
                 self.files.append(Unfinished(place, path, ""))
                 continue
-            with whole(self.begin(place, "sums"), "utf-8", "\n") as file:
+            with complete(self.begin(place, "sums"), "utf-8", "\n") as file:
                 file.write(text)
 
     def _folders(self) -> list[str]:

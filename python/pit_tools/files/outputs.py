@@ -30,7 +30,7 @@ from pit_tools.errors import UserError
 from pit_tools.files import interrupts, records
 from pit_tools.files.groups import Group
 from pit_tools.files.inputs import Command, identity, looking
-from pit_tools.files.raw import Raw, descriptor_of, is_written_through, synced, whole
+from pit_tools.files.raw import Raw, complete, descriptor_of, is_written_through, synced
 from pit_tools.files.records import File, Record, status_of
 
 _here = threading.local()
@@ -106,7 +106,7 @@ def opened(place: str, kind: str, encoding: Optional[str] = None,
     descriptor = descriptor_of(place)
     if descriptor is not None or is_written_through(place):
         with _written_through(place, descriptor) as raw:
-            with whole(raw, encoding, newline) as file:
+            with complete(raw, encoding, newline) as file:
                 yield file
         return
     with together():
@@ -114,7 +114,7 @@ def opened(place: str, kind: str, encoding: Optional[str] = None,
         raw = group.begin(place, kind)
         mine = group.files[-1]
         try:
-            with whole(raw, encoding, newline) as file:
+            with complete(raw, encoding, newline) as file:
                 yield file
         except BaseException:
             with interrupts.held():

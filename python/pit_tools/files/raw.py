@@ -67,7 +67,7 @@ def _over(raw: Raw, encoding: Optional[str], newline: str) -> IO[Any]:
 
 
 @contextmanager
-def whole(raw: Raw, encoding: Optional[str], newline: str) -> Iterator[IO]:
+def complete(raw: Raw, encoding: Optional[str], newline: str) -> Iterator[IO]:
     """Returns a reference to a file, and checks that all of it is written."""
     file = _over(raw, encoding, newline)
     try:

@@ -125,10 +125,10 @@ class Imported:
         written: dict[str, tuple[int, float, float]] = {}
         for name, *held in zip(self.zones, *(np.bincount(zone, weights, count) for weights in
                                              (None, tonnes, metal))):
-            whole = self.part_of.get(name, name)
-            before = written.get(whole, (0, 0.0, 0.0))
-            written[whole] = (before[0] + int(held[0]), before[1] + float(held[1]),
-                              before[2] + float(held[2]))
+            zone_of_part = self.part_of.get(name, name)
+            before = written.get(zone_of_part, (0, 0.0, 0.0))
+            written[zone_of_part] = (before[0] + int(held[0]), before[1] + float(held[1]),
+                                     before[2] + float(held[2]))
         return Reconciled(self.reconciliation.tolerance, self.reconciliation.rows, written,
                           self.part_of, self.words.is_merged)
 
@@ -152,7 +152,7 @@ class Imported:
                               "K": self.benches.get(name)}
                              for name, path in zip(self.zones, paths)],
                    "frame": asdict(self.frame), "reconciled": self.reconciled().record(),
-                   "told": self.report.facts, "look_at": self.report.doubts}
+                   "facts": self.report.facts, "look_at": self.report.doubts}
         progress.step("writes zone files")
         with outputs.together(exports, record=base + ".json", others=()):
             for zone, path in enumerate(paths):

@@ -33,14 +33,14 @@ class Weights:
     others: Optional[float]
 
     def verdict(self, are_same: bool) -> str:
-        """Returns `parts` of a block, each a `whole` one, or `unclear`. Equal rows are parts only
-        if a single one is too light."""
+        """Returns whether each row is a `complete` block, or they are `parts` of one, or `unclear`.
+        Equal rows are parts only if a single one is too light."""
         if self.others:
             if self.all < 1.3 * self.others:
                 return "parts"
-            return "whole" if self.one > 0.75 * self.others else "unclear"
+            return "complete" if self.one > 0.75 * self.others else "unclear"
         if self.all > HEAVY and self.one >= 2:
-            return "whole"
+            return "complete"
         if are_same:
             return "parts" if self.one < LIGHT else "unclear"
         return "parts" if self.all <= HEAVY else "unclear"
@@ -92,18 +92,18 @@ class Repeats:
             return
         weights = weights_of(self.key, self.tonnes, self.volume)
         verdict = weights.verdict(bool(self.again.any()))
-        if self.again.any() and (has_parents or not is_merged or verdict == "whole"):
-            raise UserError(self.joined_text(weights, "whole" if has_parents else verdict))
+        if self.again.any() and (has_parents or not is_merged or verdict == "complete"):
+            raise UserError(self.joined_text(weights, "complete" if has_parents else verdict))
         if is_merged:
             if not has_parents:
-                self.judge_sums(weights, "whole" if by_density else verdict)
+                self.judge_sums(weights, "complete" if by_density else verdict)
             return
         one, other = order[twice[0]], order[twice[0] + 1]
         count = len(twice)
         if by_density:
             way = ("each is treated as a complete block: if rows are parts, --merge sums them up "
                    "and needs their --volume; otherwise omit one of them")
-        elif verdict == "whole":
+        elif verdict == "complete":
             way = (f"{weights.text()}: each is a complete block, as of exports that overlap or "
                    "of two versions: omit one of them")
         else:
@@ -120,7 +120,7 @@ class Repeats:
             same &= (self.rows[name] == self.rows[name].iloc[at]).to_numpy()
         before = int(np.flatnonzero(same)[0])
         way = {
-            "whole": "--drop-repeats counts each once",
+            "complete": "--drop-repeats counts each once",
             "parts": "they add up to one block, so they may be equal parts, which --merge sums up; "
                      "if rows are repeated, --drop-repeats counts each once",
             "unclear": "if rows are repeated, --drop-repeats counts each once; if they are equal "
@@ -136,7 +136,7 @@ class Repeats:
     def judge_sums(self, weights: Weights, verdict: str) -> None:
         """Checks the sums of rows at one position. By a density only each has the volume of the
         complete position."""
-        if verdict == "whole":
+        if verdict == "complete":
             order = np.argsort(self.key, kind="stable")
             at = order[np.flatnonzero(self.key[order][1:] == self.key[order][:-1])[0] + 1]
             raise UserError(f"--merge: {weights.text()}, so each row is a complete block, as "

@@ -34,7 +34,7 @@ class ImportedFile:
     files: list[str]
     frame: Frame
     benches: dict[str, int]
-    told: list[str]
+    facts: list[str]
     doubts: list[str]
     reconciled: Reconciled = Reconciled()
     rock_benches: int = 0
@@ -79,7 +79,7 @@ def _imported(record: dict, path: str) -> ImportedFile:
                         (wide, deep, high), [name for name, _, _ in zones],
                         [path for _, path, _ in zones], Frame.of_record(record["frame"]),
                         {name: index(K) for name, _, K in zones if K},
-                        list(map(_text, record.get("told", []))),
+                        list(map(_text, record.get("facts", []))),
                         list(map(_text, record.get("look_at", []))),
                         Reconciled.of_record(record.get("reconciled")),
                         index(record["grid"].get("rock_benches", high)))

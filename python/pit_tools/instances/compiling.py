@@ -54,9 +54,9 @@ def _watched(child: subprocess.Popen, reads: Sequence[str],
             except subprocess.TimeoutExpired:
                 read, wrote = _bytes_of(child.pid)
                 if wrote:
-                    growth.tell(f"compile writes {_grows(base)}", wrote)
+                    growth.report(f"compile writes {_grows(base)}", wrote)
                 else:
-                    growth.tell("compile reads", min(read, total), total)
+                    growth.report("compile reads", min(read, total), total)
     finally:
         growth.close()
 

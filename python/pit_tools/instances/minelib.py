@@ -20,10 +20,10 @@ from pit_tools.instances.block_files import Columns, read_columns
 from pit_tools.instances.files import arcs_in, write_instance
 from pit_tools.instances.identifiers import Identifiers, order_of, reordered
 from pit_tools.instances.models import read_model, read_upit
-from pit_tools.texts.lines import Told, chunks_of, reject_row
+from pit_tools.texts.lines import Changes, chunks_of, reject_row
 
 
-def read_precedence(path: str, blocks: int, first: int, told: Told) -> sparse.csr_matrix:
+def read_precedence(path: str, blocks: int, first: int, changes: Changes) -> sparse.csr_matrix:
     """Reads the precedences: `id k p1 .. pk` in any order; blocks without a line have none.
 
     Raises UserError, with the line, if a number of predecessors or an identifier is wrong.
@@ -47,8 +47,8 @@ def read_precedence(path: str, blocks: int, first: int, told: Told) -> sparse.cs
     lines = [np.concatenate(part) if part else np.empty(0, np.int32)
              for part in (rows, counts, above)]
     if done < blocks:
-        told.tell(f"{blocks - done} blocks had no line in the precedence file, so they have no "
-                  "predecessors")
+        changes.add(f"{blocks - done} blocks had no line in the precedence file, so they have no "
+                    "predecessors")
     return _matrix_of(path, blocks, *lines)
 
 
@@ -96,71 +96,72 @@ def _cpit_of(pcpsp: Problem) -> Problem:
     return replace(pcpsp, kind="CPIT", values=pcpsp.values.max(axis=1)[:, None], uses=kept)
 
 
-def _completed(mine: Instance, told: Told) -> Instance:
+def _completed(mine: Instance, changes: Changes) -> Instance:
     """Returns the instance with the missing problems made from the existing ones."""
     pcpsp, cpit, upit = mine.pcpsp, mine.cpit, mine.upit
     if cpit is None and pcpsp is not None:
         cpit = _cpit_of(pcpsp)
-        told.tell("the CPIT was made from the PCPSP: each block goes where it is worth most")
+        changes.add("the CPIT was made from the PCPSP: each block goes where it is worth most")
     if cpit is None and upit is not None:
         cpit = Problem("CPIT", upit.name, 1, 0, 0.0, upit.values[:, None], _no_uses())
-        told.tell("the CPIT was made from the UPIT: one period, no resource")
+        changes.add("the CPIT was made from the UPIT: one period, no resource")
     if cpit is None:
         raise UserError("give a UPIT, a CPIT or a PCPSP")
     if pcpsp is None:
         pcpsp = replace(cpit, kind="PCPSP")
-        told.tell("the PCPSP was made from the CPIT: one destination")
+        changes.add("the PCPSP was made from the CPIT: one destination")
     if upit is None:
         upit = UltimatePit(cpit.name, cpit.values[:, 0])
-        told.tell("the UPIT was made from the CPIT's values")
+        changes.add("the UPIT was made from the CPIT's values")
     return replace(mine, pcpsp=pcpsp, cpit=cpit, upit=upit)
 
 
 def read_published(files: dict[str, str], columns: Columns = Columns(), order: Optional[str] = None,
                    without_general: bool = False,
-                   told: Optional[Told] = None) -> tuple[Instance, Identifiers]:
+                   changes: Optional[Changes] = None) -> tuple[Instance, Identifiers]:
     """Reads an instance from published files, by the endings blocks, prec, upit, cpit and pcpsp,
     and the identifiers that its blocks had; blocks, prec and one of the others must exist.
 
     Raises UserError if a file is invalid, or if their blocks differ.
     """
-    told = told if told is not None else Told()
+    changes = changes if changes is not None else Changes()
     absent = [ending for ending in ("blocks", "prec") if ending not in files]
     if absent:
         raise UserError(f"give the file of {' and '.join(absent)}")
-    blocks, first = read_columns(files["blocks"], columns, told)
-    precedence = read_precedence(files["prec"], len(blocks), first, told)
-    upit = read_upit(files["upit"], first, without_general, told) if "upit" in files else None
-    problems = [read_model(files[ending], ending.upper(), first, order, without_general, told)
+    blocks, first = read_columns(files["blocks"], columns, changes)
+    precedence = read_precedence(files["prec"], len(blocks), first, changes)
+    upit = read_upit(files["upit"], first, without_general, changes) if "upit" in files else None
+    problems = [read_model(files[ending], ending.upper(), first, order, without_general, changes)
                 if ending in files else None for ending in ("pcpsp", "cpit")]
-    mine = _completed(Instance(blocks, precedence, upit, *problems), told)
+    mine = _completed(Instance(blocks, precedence, upit, *problems), changes)
     for part in (mine.upit, mine.cpit, mine.pcpsp):
         if part is not None and len(part.values) != len(blocks):
             raise UserError(f"a model file has {len(part.values)} blocks, but the block file "
                             f"{len(blocks)}")
-    return _in_order(mine, first, told)
+    return _in_order(mine, first, changes)
 
 
-def _in_order(mine: Instance, first: int, told: Told) -> tuple[Instance, Identifiers]:
+def _in_order(mine: Instance, first: int, changes: Changes) -> tuple[Instance, Identifiers]:
     """Returns the instance in an order in which predecessors follow their blocks."""
-    _look_at_heights(mine, told)
+    _look_at_heights(mine, changes)
     order = None if mine.precedence is None else order_of(mine.precedence)
     published = np.arange(first, first + len(mine.blocks or ()))
     if first:
-        told.tell(f"identifiers counted from {first}, and now count from 0")
+        changes.add(f"identifiers counted from {first}, and now count from 0")
     if order is not None:
         mine, published = reordered(mine, order), published[order]
-        told.tell("a predecessor preceded its block: blocks now have other identifiers")
+        changes.add("a predecessor preceded its block: blocks now have other identifiers")
     return mine, Identifiers(published)
 
 
-def _look_at_heights(mine: Instance, told: Told) -> None:
+def _look_at_heights(mine: Instance, changes: Changes) -> None:
     """Reports if predecessors are below their blocks."""
     if mine.blocks is None or mine.precedence is None or not mine.precedence.nnz:
         return
     heights = np.repeat(mine.blocks.z, np.diff(mine.precedence.indptr))
     if (mine.blocks.z[mine.precedence.indices] < heights).mean() > 0.5:
-        told.tell("most predecessors are at a smaller z than their block: z counts downward there")
+        changes.add("most predecessors are at a smaller z than their block: z counts downward "
+                    "there")
 
 
 def _in_fields(uses: Uses, order: str) -> Uses:

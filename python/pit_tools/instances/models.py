@@ -1,8 +1,8 @@
 """UPIT, CPIT and PCPSP files, of `pitc` and of other programs.
 
-A file of `pitc` is read without a `Told`: its keys and sections have one order, and anything else
+A file of `pitc` is read without `Changes`: its keys and sections have one order, and anything else
 is an error with its line. Header and sections of other files may have any order; changes and
-omissions are reported to the `Told`.
+omissions are added to the `Changes`.
 """
 from __future__ import annotations
 
@@ -20,7 +20,7 @@ from pit_tools.instances.arrays import Limit, Problem, UltimatePit, Uses
 from pit_tools.texts.decimals import number_of, integer_of
 from pit_tools.texts.formats import (MOST_BLOCKS, MOST_DESTINATIONS, MOST_PERIODS, MOST_RESOURCES,
                                      WHAT_A_NAME_IS)
-from pit_tools.texts.lines import (Chunk, Rounding, Told, line_lengths, numbers_of, chunks_of,
+from pit_tools.texts.lines import (Chunk, Rounding, Changes, line_lengths, numbers_of, chunks_of,
                                    reject_row)
 from pit_tools.texts.number_texts import NotHeld, nearest
 
@@ -44,9 +44,9 @@ LETTERS = {"L": "L", "<=": "L", "<": "L", "LE": "L", "G": "G", ">=": "G", ">": "
 class Model:
     """A model file: its header, and the positions of its sections."""
 
-    def __init__(self, path: str, kind: str, told: Optional[Told]):
-        self.path, self.kind, self.told = path, kind, told
-        self.is_own = told is None
+    def __init__(self, path: str, kind: str, changes: Optional[Changes]):
+        self.path, self.kind, self.changes = path, kind, changes
+        self.is_own = changes is None
         self.header: dict[str, str] = {}
         self.unknown: list[str] = []
         self.sections: dict[str, int] = {}
@@ -59,9 +59,9 @@ class Model:
 
     def change(self, fault: str, done: str) -> None:
         """Reports how an error was repaired; in a file of `pitc` it raises UserError."""
-        if self.told is None:
+        if self.changes is None:
             raise UserError(f"{self.path}: {fault}")
-        self.told.tell(f"{self.file_name}: {done}")
+        self.changes.add(f"{self.file_name}: {done}")
 
     def missing_section(self) -> str:
         """Returns the next section that a file of `pitc` has, or `none`."""
@@ -172,7 +172,7 @@ class _Values:
             chunk.reject(0, f"a line of the objective of a {self.model.kind} must be a block and "
                             f"{'its values' if self.model.kind == 'PCPSP' else 'one value'}")
         numbers = numbers_of(chunk, range(length), "a line of the objective", length)
-        self.ids.append(chunk.whole(numbers[0], "the block"))
+        self.ids.append(chunk.integers(numbers[0], "the block"))
         self.parts.append(self.rounding.of(chunk, numbers[1:], "a value"))
 
     def by_block(self) -> np.ndarray:
@@ -180,7 +180,7 @@ class _Values:
         if not self.parts:
             raise UserError(f"{self.model.path}: no lines follow {OBJECTIVE}")
         ids, values = np.concatenate(self.ids), np.concatenate(self.parts, axis=1).T
-        self.rounding.tell(self.model.rows(OBJECTIVE), "values were", self.model.told)
+        self.rounding.report(self.model.rows(OBJECTIVE), "values were", self.model.changes)
         at = ids - self.first
         is_wrong = at != np.arange(len(at))
         if not is_wrong.any():
@@ -213,7 +213,7 @@ class _Coefficients:
         """Reads lines of two or three indices and an amount."""
         what, places = f"a coefficient of a {self.model.kind}", self.places
         numbers = numbers_of(chunk, range(places + 1), what, places + 1)
-        whole = [chunk.whole(numbers[at], f"field {at + 1} of {what}") for at in range(places)]
+        whole = [chunk.integers(numbers[at], f"field {at + 1} of {what}") for at in range(places)]
         self.parts.append([*whole, self.rounding.of(chunk, numbers[places], "an amount")])
 
     def uses(self, first: int, ends: tuple[int, int, int], order: Optional[str]) -> Uses:
@@ -222,7 +222,7 @@ class _Coefficients:
         empty = [np.empty(0, np.int32)] * self.places + [np.empty(0)]
         *fields, amount = map(np.concatenate, zip(*self.parts)) if self.parts else empty
         self.parts.clear()
-        self.rounding.tell(self.model.rows(COEFFICIENTS), "amounts were", self.model.told)
+        self.rounding.report(self.model.rows(COEFFICIENTS), "amounts were", self.model.changes)
         block, destination, resource = self._in_order(fields, first, ends, order)
         keys = (block.astype(np.int64) * ends[1] + destination) * max(ends[2], 1) + resource
         if np.any(keys[1:] < keys[:-1]):
@@ -458,23 +458,23 @@ def read_outline(path: str, kind: str = "PCPSP") -> Outline:
 
 
 def read_upit(path: str, first: int = 0, without_general: bool = False,
-              told: Optional[Told] = None) -> UltimatePit:
+              changes: Optional[Changes] = None) -> UltimatePit:
     """Reads a UPIT file, of blocks from `first` on: its values (n,), in units of 100 cents.
 
     Raises UserError for any other file."""
-    model = Model(path, "UPIT", told)
+    model = Model(path, "UPIT", changes)
     values, _ = _read(model, first, without_general, _Count())
     return UltimatePit(model.name(), values[:, 0])
 
 
 def read_model(path: str, kind: str, first: int = 0, order: Optional[str] = None,
-               without_general: bool = False, told: Optional[Told] = None) -> Problem:
+               without_general: bool = False, changes: Optional[Changes] = None) -> Problem:
     """Reads a CPIT or a PCPSP file, of blocks from `first` on. `order` is the order of a
     coefficient's fields, one of ORDERS, or None for the one that fits.
 
     Raises UserError if parts are missing, out of range, or there are general side constraints.
     """
-    model = Model(path, kind, told)
+    model = Model(path, kind, changes)
     uses = _Coefficients(model)
     values, limits = _read(model, first, without_general, uses)
     blocks, destinations = values.shape

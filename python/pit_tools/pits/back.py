@@ -257,7 +257,7 @@ def _rows_written(again: Imported, appended: Appended, out: IO[str]) -> tuple[in
             rows += max(0, len(table) - left)
             left = max(0, left - len(table))
             found += int((ids >= 0).sum())
-            progress.tell(f"{rows:,} rows")
+            progress.report(f"{rows:,} rows")
     return rows, found
 
 

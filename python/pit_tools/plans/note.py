@@ -31,7 +31,7 @@ class ZoneSeen:
 @dataclass(frozen=True)
 class PlanNote:
     """`is_used` is false if there is none, and `why_not` is the reason why an existing one is not
-    used; `said` has pairs of a record and its explanation; `told`, `doubts`, the `frame` of
+    used; `said` has pairs of a record and its explanation; `facts`, `doubts`, the `frame` of
     coordinates, the resource report and `exports`, the sums of what it read, come from `import`;
     `benches` is the height for which slopes were judged, 0 if it is unknown."""
 
@@ -41,7 +41,7 @@ class PlanNote:
     said: list[tuple[str, str]] = field(default_factory=list)
     notes: list[str] = field(default_factory=list)
     exports: list[str] = field(default_factory=list)
-    told: list[str] = field(default_factory=list)
+    facts: list[str] = field(default_factory=list)
     doubts: list[str] = field(default_factory=list)
     frame: Frame = Frame()
     reconciled: Reconciled = Reconciled()
@@ -100,7 +100,7 @@ def _are_of_one_run(*paths: str) -> bool:
 def _note_of(record: dict) -> PlanNote:
     said = [(str(first), str(second)) for first, second in record["said"]]
     notes, exports, lines, doubts = ([str(line) for line in record[name]]
-                                     for name in ("notes", "exports", "told", "doubts"))
+                                     for name in ("notes", "exports", "facts", "doubts"))
     zones = [ZoneSeen(str(zone["name"]), str(zone["file"])) for zone in record["zones"]]
     return PlanNote(True, Measures(**record["measures"]), zones, said, notes, exports,
                     lines, doubts, Frame.of_record(record["frame"]),

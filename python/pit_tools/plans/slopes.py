@@ -112,9 +112,9 @@ def judge(grid: Grid, zones: Sequence[Zone], names: Sequence[str], benches: int,
                      "of azimuth is a side of one zone"
                      for (zone, other), count in contacts.adjacent.items()
                      if (zone, other) not in contacts.below)
-    small, whole = _judged_walls(grid, zones, names, benches, within, wanted,
-                                 contacts) if benches > 1 else ((), ())
-    return Judgement(wanted, small + below, whole + adjacent)
+    small, unsplit = _judged_walls(grid, zones, names, benches, within, wanted,
+                                   contacts) if benches > 1 else ((), ())
+    return Judgement(wanted, small + below, unsplit + adjacent)
 
 
 def _judged_walls(grid: Grid, zones: Sequence[Zone], names: Sequence[str], benches: int,
@@ -124,7 +124,7 @@ def _judged_walls(grid: Grid, zones: Sequence[Zone], names: Sequence[str], bench
     tolerance, for all zones, or none."""
     rise = benches - 1
     small: dict[str, list[str]] = {}
-    whole: dict[str, list[str]] = {}
+    unsplit: dict[str, list[str]] = {}
     over = []
     for name, zone, K, number in zip(names, zones, wanted, range(len(zones))):
         with_all = too_steep_by_rise(grid, zone, K, rise)
@@ -136,9 +136,9 @@ def _judged_walls(grid: Grid, zones: Sequence[Zone], names: Sequence[str], bench
         most = float(with_all[_three_quarters(benches) - 2:].max())
         if number not in contacts.begins and most > within:
             over.append(most)
-            whole.setdefault(_flatter_text(grid, zone, benches, within), []).append(name)
+            unsplit.setdefault(_flatter_text(grid, zone, benches, within), []).append(name)
     return _in_one_line("K is too small: ", small,
-                        ": "), _in_one_line(_unsplit_blocks(benches, over, within), whole, " by ")
+                        ": "), _in_one_line(_unsplit_blocks(benches, over, within), unsplit, " by ")
 
 
 def too_steep_by_rise(grid: Grid, zone: Zone, K: int, rise: int) -> np.ndarray:

@@ -155,15 +155,15 @@ def price_of(text: str, parts: int, purse: Purse) -> Price:
             raise UserError(f"--price: `{part}`: give payable, royalty or selling")
         wording += f", {part}"
     cents = net * 100 * parts
-    whole = _nearest(cents)
-    if not 0 < whole <= MOST_PRICE:
+    rounded = _nearest(cents)
+    if not 0 < rounded <= MOST_PRICE:
         raise UserError(f"--price: {wording} is {_shown(cents)} cents per kilogram, but a plan "
                         f"needs 1 to {MOST_PRICE:,}")
-    if abs(whole - cents) > cents / 1000:
+    if abs(rounded - cents) > cents / 1000:
         raise UserError(f"--price: {wording} is {plain(round(cents, 3))} cents per kilogram, but a "
                         "plan needs integers: count all money in parts of a cent by --parts 100")
     unit = "cents" if parts == 1 else f"x 1/{parts} cents"
-    return Price(whole, f"{wording} is {whole:,} {unit} per kilogram of metal")
+    return Price(rounded, f"{wording} is {rounded:,} {unit} per kilogram of metal")
 
 
 def _nearest(cents: Decimal) -> int:
@@ -184,13 +184,13 @@ def cost_of(text: str, mining: Decimal, parts: int, what: str, purse: Purse) -> 
     money, and its derivation."""
     cost = _money_by(text, ROCKS, what, "16.50 USD/t", purse)
     cents = (cost + mining) * 100 * parts
-    whole = _nearest(cents)
-    if not 0 <= whole <= MOST_COST:
+    rounded = _nearest(cents)
+    if not 0 <= rounded <= MOST_COST:
         raise UserError(f"{what}: {_shown(cents)} cents per tonne, but a plan needs 0 to "
                         f"{MOST_COST:,}")
     with_mining = f" and {plain(round(mining, 4))} of mining" if mining else ""
     unit = "cents" if parts == 1 else f"x 1/{parts} cents"
-    return whole, f"cost {text.strip()}{with_mining} is {whole:,} {unit} per tonne"
+    return rounded, f"cost {text.strip()}{with_mining} is {rounded:,} {unit} per tonne"
 
 
 def _parts(text: str) -> list[str]:

@@ -139,7 +139,7 @@ class Search:
             idle = 0
             for step in range(MOST_STEPS):
                 begun, bound = time.monotonic(), self.best.bound
-                progress.tell(f"step {step + 1}, bound {bound:.2f}")
+                progress.report(f"step {step + 1}, bound {bound:.2f}")
                 if not self._step():
                     break
                 idle = 0 if self.best.bound < bound else idle + 1
@@ -169,7 +169,7 @@ class Search:
         counts, best = model.at_prices(prices)
         steps = counts.copy()
         steps[:-1] -= counts[1:]
-        first = closure_of_periods(_whole(steps), model.precedence).first
+        first = closure_of_periods(_integers(steps), model.precedence).first
         mined = np.flatnonzero(first < model.periods)
         bound = model.paid(prices) + float(counts[first[mined], mined].sum())
         if bound < self.best.bound:
@@ -222,7 +222,7 @@ class Search:
                 break
             inner, outer = pits[max(gaps)[1]:][:2]
             cost = (outer[1] - inner[1]) / (outer[2] - inner[2])
-            pit = closure_of_periods(_whole(value - cost * share)[None],
+            pit = closure_of_periods(_integers(value - cost * share)[None],
                                      model.precedence).first == 0
             pit = (pit | inner[0]) & outer[0]
             found = (pit, float(value[pit].sum()), float(share[pit].sum()))
@@ -236,7 +236,7 @@ class Search:
         self._split(count, len(pits))
 
 
-def _whole(counts: np.ndarray) -> np.ndarray:
+def _integers(counts: np.ndarray) -> np.ndarray:
     """Returns numbers as integers, int64, so fine that 64 bits represent their sum."""
     size = float(np.abs(counts).sum())
     scale = 2.0**min(200, np.floor(58 - np.log2(size))) if size else 1.0

@@ -43,10 +43,10 @@ def _chunks(program: Program) -> Iterator[bytes]:
         # Readers, as that of glpsol, need a row in the section.
         yield b" l0: " + nothing + b" <= 0\n"
     yield b"Bounds\n"
-    yield from _named(program, ~program.whole, b" 0 <= ", b" <= 1\n")
-    if program.whole.any():
+    yield from _named(program, ~program.is_integer, b" 0 <= ", b" <= 1\n")
+    if program.is_integer.any():
         yield b"Binary\n"
-        yield from _named(program, program.whole, b" ", b"\n")
+        yield from _named(program, program.is_integer, b" ", b"\n")
     yield b"End\n"
 
 

@@ -32,14 +32,14 @@ ENDS, ARCS, PERIODS, SHARES, LIMITS, ONCE = ROWS = ("ends", "arcs", "periods", "
 @dataclass(frozen=True)
 class Program:
     """Maximise objective . v, with lower <= rows v <= upper, 0 <= v <= 1, and v an integer if
-    `whole`. `names.list()` has the names of the variables."""
+    `is_integer`. `names.list()` has the names of the variables."""
 
     title: str
     objective: np.ndarray  #: (variables,)
     rows: sparse.csr_matrix  #: (rows, variables)
     lower: np.ndarray  #: (rows,), may be -inf
     upper: np.ndarray  #: (rows,), may be inf
-    whole: np.ndarray  #: bool (variables,)
+    is_integer: np.ndarray  #: bool (variables,)
     names: "Names"
     kinds: np.ndarray  #: the meaning of each row, by its place in ROWS, int8 (rows,)
 
@@ -263,7 +263,7 @@ def by_period(program: Program) -> Program:
                    sparse.vstack([left[kept], once]).tocsr(),
                    np.concatenate([program.lower[kept], np.full(names.blocks, -np.inf)]),
                    np.concatenate([program.upper[kept], np.ones(names.blocks)]),
-                   program.whole[names.first_x:],
+                   program.is_integer[names.first_x:],
                    Names(names.blocks, names.periods, names.destinations, has_x=True, has_w=False),
                    np.append(program.kinds[kept], np.full(names.blocks, ROWS.index(ONCE), np.int8)))
 
@@ -284,7 +284,7 @@ class Answer:
     value: Optional[float]
     bound: Optional[float]
     values: Optional[np.ndarray]
-    told: str
+    message: str
 
 
 def solve(program: Program, seconds: Optional[float] = None, ratio: float = 0.0,
@@ -306,7 +306,7 @@ def _solved(program: Program, seconds: Optional[float], ratio: float,
     scale = max(1.0, float(np.abs(program.objective).max(initial=1)))
     constraints = optimize.LinearConstraint(program.rows, program.lower,
                                             program.upper) if program.rows.shape[0] else ()
-    found = optimize.milp(-program.objective / scale, integrality=program.whole.astype(int),
+    found = optimize.milp(-program.objective / scale, integrality=program.is_integer.astype(int),
                           bounds=bounds or optimize.Bounds(0, 1), constraints=constraints,
                           options=options)
     if found.status == 2:
@@ -318,7 +318,7 @@ def _solved(program: Program, seconds: Optional[float], ratio: float,
     if found.x is None:
         return Answer("stopped", None, bound, None, "none was found so far")
     value = float(program.objective @ found.x)
-    if not program.whole.any():
+    if not program.is_integer.any():
         bound = value if found.status == 0 else None
     is_best = found.status == 0 and (bound is None or bound - value <= 1e-7 * max(1, abs(value)))
     status = "best" if is_best else "within the ratio" if found.status == 0 else "stopped"

@@ -121,11 +121,11 @@ class Search:
         for number, start in enumerate([from_shells(self.problem, self.tonnes, self.precedence),
                                         *starts]):
             self._take(start, "given" if number else "shells")
-        self._whole(self.seconds / 10)
+        self._solve_complete(self.seconds / 10)
         while self._is_open() and self.best is not None and self._left() > 0.3 * self.seconds:
             self._part(self.best)
         if self._is_open():
-            self._whole(self._left())
+            self._solve_complete(self._left())
         bound = None if np.isinf(self.bound) else max(self.bound, self.worth)
         return Found(self.best, bound, self.how)
 
@@ -155,12 +155,12 @@ class Search:
                        lower=np.append(self.program.lower, (self.worth + STEP) / scale),
                        upper=np.append(self.program.upper, np.inf))
 
-    def _whole(self, seconds: float) -> None:
+    def _solve_complete(self, seconds: float) -> None:
         """Solves the complete program: if nothing is above the best schedule, that is its bound."""
         result = solve(self._above(), max(1.0, seconds))
         if result.values is not None:
             self._take(schedule_of(result.values, self.problem, self.program.names),
-                       "the whole program")
+                       "the complete program")
         if result.status == "none" and self.best is not None:
             self.bound = self.worth
         elif result.bound is not None:

@@ -38,7 +38,7 @@ def box(facts: Facts, inputs: Inputs) -> list[Entry]:
                      [f"{datetime.now().astimezone():%Y-%m-%d %H:%M %Z}", *version().splitlines()]),
                Entry("plan", [f"{record}: {said}" for record, said in note.said]
                      or [",".join(record) for record in facts.plan.records()]),
-               Entry("note", note.notes), Entry("import", note.told),
+               Entry("note", note.notes), Entry("import", note.facts),
                Entry("reconciled", list(_reconciled(facts))),
                Entry("import: look at", note.doubts), Entry("inputs", list(_sums(facts, inputs)))]
     return [entry for entry in entries if entry.lines]

@@ -41,7 +41,7 @@ class Finding(NamedTuple):
     """A finding, and the part of the survey that has its numbers."""
 
     part: str
-    told: str
+    text: str
 
 
 def look_at(facts: Facts) -> list[Finding]:
@@ -49,14 +49,14 @@ def look_at(facts: Facts) -> list[Finding]:
     parts = [("ROCK", _rock), ("ROCK", _zone_files), ("SLOPES", _slopes), ("SIDES", _sides),
              ("DESTINATIONS", _destinations), ("BEST FOR", _best_for), ("RESOURCES", _resources),
              ("RESOURCES", _limits), ("FILES", _files)]
-    return [Finding(part, told) for part, find in parts for told in find(facts)]
+    return [Finding(part, text) for part, find in parts for text in find(facts)]
 
 
 def notes(facts: Facts) -> list[Finding]:
     """Returns what is not a mistake but must be known, in the same order."""
     parts = [("ROCK", _density), ("SLOPES", lambda facts: facts.slopes.notes),
              ("BEST FOR", _little_used), ("RESOURCES", _remainder), ("FILES", _note)]
-    return [Finding(part, told) for part, find in parts for told in find(facts)]
+    return [Finding(part, text) for part, find in parts for text in find(facts)]
 
 
 def _count(number: float, what: str) -> str:
@@ -74,7 +74,7 @@ def rock_model(facts: Facts) -> RockModel:
 
 def _rock(facts: Facts) -> Iterator[str]:
     """Returns whether the findings of rock come from an import that reported them."""
-    if not facts.note.told:
+    if not facts.note.facts:
         yield from rock_warnings(rock_model(facts))
     graded = (facts.blocks.tonnes == 0) & (facts.blocks.grade > 0)
     if graded.any():
@@ -146,8 +146,8 @@ def _sides(facts: Facts) -> Iterator[str]:
         return
     sides = {side: int((there & pit).sum()) for side, there in facts.at_side().items()}
     if any(sides.values()):
-        told = ", ".join(f"{with_commas(many)} {side}" for side, many in sides.items() if many)
-        yield (f"the pit of {_count(pit.sum(), 'block')} ends at sides of the model ({told}): an "
+        ends = ", ".join(f"{with_commas(many)} {side}" for side, many in sides.items() if many)
+        yield (f"the pit of {_count(pit.sum(), 'block')} ends at sides of the model ({ends}): an "
                "upright wall there costs nothing")
     # Waste at the floor of a model does not show that ore continues.
     bottom = (pit & facts.paying & (facts.blocks.z == facts.floor_of)).sum()

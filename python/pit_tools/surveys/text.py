@@ -55,7 +55,7 @@ def _look_at(facts: Facts) -> Iterator[str]:
     yield "LOOK AT"
     findings = look_at(facts)
     for finding in findings:
-        yield f"- {finding.part}: {finding.told}"
+        yield f"- {finding.part}: {finding.text}"
     if not findings:
         yield "- nothing unusual was found; the parts below show how the plan was understood"
 
@@ -65,7 +65,7 @@ def _notes(facts: Facts) -> Iterator[str]:
     if found:
         yield "NOTE"
     for note in found:
-        yield f"- {note.part}: {note.told}"
+        yield f"- {note.part}: {note.text}"
 
 
 def _places(facts: Facts) -> Iterator[str]:

@@ -33,13 +33,13 @@ _COMMENT, _COMMENT_LINE = re.compile(rb"%[^\n]*"), re.compile(rb"(?m)^[ \t]*%[^\
 _END = re.compile(rb"(?im)^[ \t]*eof[ \t]*$")
 
 
-class Told:
+class Changes:
     """Changes and omissions, one line each."""
 
     def __init__(self) -> None:
         self.lines: list[str] = []
 
-    def tell(self, text: str) -> None:
+    def add(self, text: str) -> None:
         """Adds a line."""
         self.lines.append(text)
 
@@ -48,7 +48,7 @@ class Told:
         chunk, row = _chunk_of(chunks, row)
         number, _ = chunk.line_of(row)
         more = f" and {count - 1} more" if count > 1 else ""
-        self.tell(f"{os.path.basename(chunk.path)}: line {number}{more}: {text}")
+        self.add(f"{os.path.basename(chunk.path)}: line {number}{more}: {text}")
 
 
 @dataclass(frozen=True)
@@ -73,13 +73,13 @@ class Chunk:
                 return line
         raise IndexError(row)
 
-    def reject(self, row: int, told: str) -> NoReturn:
+    def reject(self, row: int, message: str) -> NoReturn:
         """Raises UserError for a row, with its line."""
         number, text = self.line_of(row)
-        raise UserError(f"{self.path}: line {number}: {told}: {quoted(text)}")
+        raise UserError(f"{self.path}: line {number}: {message}: {quoted(text)}")
 
-    def whole(self, numbers: np.ndarray, what: str, least: int = 0,
-              most: int = 2**31 - 1) -> np.ndarray:
+    def integers(self, numbers: np.ndarray, what: str, least: int = 0,
+                 most: int = 2**31 - 1) -> np.ndarray:
         """Returns numbers of its rows as int32.
 
         Raises UserError, with the line, if one is not an integer or out of range.
@@ -119,10 +119,10 @@ def _chunk_of(chunks: Iterable[Chunk], row: int) -> tuple[Chunk, int]:
     raise IndexError(row)
 
 
-def reject_row(chunks: Iterable[Chunk], row: int, told: str) -> NoReturn:
+def reject_row(chunks: Iterable[Chunk], row: int, changes: str) -> NoReturn:
     """Raises UserError for a row of all these parts, with its line."""
     chunk, row = _chunk_of(chunks, row)
-    chunk.reject(row, told)
+    chunk.reject(row, changes)
 
 
 def numbered_lines(path: str, most: int = MOST_LINE) -> Iterator[tuple[int, str]]:
@@ -326,10 +326,10 @@ class Rounding:
         self.rows += numbers.shape[-1]
         return rounded
 
-    def tell(self, chunks: Iterable[Chunk], what: str, told: Optional[Told]) -> None:
-        """Reports how many were rounded, if one was; raises UserError if there is no `told`."""
-        if self.count and told is None:
+    def report(self, chunks: Iterable[Chunk], what: str, changes: Optional[Changes]) -> None:
+        """Reports how many were rounded, if one was; raises UserError if there is no `changes`."""
+        if self.count and changes is None:
             reject_row(chunks, self.first, f"a number has more than {self.decimals} decimals")
-        if self.count and told is not None:
-            told.report_rows(chunks, self.first, self.count,
-                             f"{what} rounded to {self.decimals} decimals")
+        if self.count and changes is not None:
+            changes.report_rows(chunks, self.first, self.count,
+                                f"{what} rounded to {self.decimals} decimals")

@@ -81,10 +81,10 @@ def _joined(args: argparse.Namespace) -> int:
             raise UserError("--join makes no instance, so it excludes "
                             f"--{'continue' if name == 'goes_on' else name.replace('_', '-')}")
     joining = Joining(args.list, args.join)
-    whole = joining.run()
+    is_complete = joining.run()
     absent = "no MANIFEST" if joining.made else "nothing is changed"
     return _report(joining.failed, f"{len(joining.made)} of {len(joining.list.entries)} instances",
-                    whole, absent)
+                    is_complete, absent)
 
 
 def _made(args: argparse.Namespace) -> int:
@@ -110,20 +110,20 @@ def _made(args: argparse.Namespace) -> int:
     part = Part.read(args.part) if args.part else Part()
     batch = Batch(args.list, way, part)
     with progress.shown("batch", len(batch.entries)):
-        whole = batch.run(engine_options.engine_of(args), args.goes_on, args.stop_at)
+        is_complete = batch.run(engine_options.engine_of(args), args.goes_on, args.stop_at)
     message = "" if part.is_complete else f"part {part.number} of {part.of}: "
     kept = f", {len(batch.kept)} of them kept" if args.goes_on else ""
     return _report(batch.failed,
-                   f"{message}{len(batch.made)} of {len(batch.entries)} instances{kept}", whole,
-                   "no MANIFEST" if part.is_complete else "")
+                   f"{message}{len(batch.made)} of {len(batch.entries)} instances{kept}",
+                   is_complete, "no MANIFEST" if part.is_complete else "")
 
 
-def _report(failed: list[str], line: str, whole: bool, absent: str) -> int:
+def _report(failed: list[str], line: str, is_complete: bool, absent: str) -> int:
     """Prints what failed, the line, and what is missing if not all is complete; returns the
     status."""
     import sys
 
     for one in failed:
         print(f"pit-tools batch: {one}", file=sys.stderr)
-    print(line if whole or not absent else f"{line}; {absent}")
-    return 0 if whole else 1
+    print(line if is_complete or not absent else f"{line}; {absent}")
+    return 0 if is_complete else 1

@@ -83,17 +83,17 @@ def _bring_in(args: argparse.Namespace, files: dict[str, str]) -> int:
     from pit_tools.instances.identifiers import write_identifiers
     from pit_tools.instances.minelib import read_published
     from pit_tools.pits.closure import immediate
-    from pit_tools.texts.lines import Told
+    from pit_tools.texts.lines import Changes
 
-    told = Told()
+    changes = Changes()
     columns = Columns(args.tonnes, args.grade, args.zone)
-    mine, identifiers = read_published(files, columns, args.order, args.without_general, told)
+    mine, identifiers = read_published(files, columns, args.order, args.without_general, changes)
     if args.fewer_arcs:
         mine = replace(mine, precedence=immediate(mine.precedence))
     with outputs.together(record=args.out):
         write_instance(mine, args.out)
         write_identifiers(identifiers, f"{args.out}.ids")
-    for line in told.lines:
+    for line in changes.lines:
         print(line)
     print(mine.counts())
     return 0

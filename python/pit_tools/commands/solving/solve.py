@@ -79,7 +79,7 @@ def run(args: argparse.Namespace) -> int:
         if start.schedule and start.schedule.worth(problem) > (value or 0.0):
             found, value = start.schedule, start.schedule.worth(problem)
     if found is None:
-        print(f"{result.status}: {result.told}")
+        print(f"{result.status}: {result.message}")
         return 1
     known = [bound for bound in bounds if bound is not None]
     print(f"{result.status}: worth {value:.2f}{f', bound {min(known):.2f}' if known else ''}")
