@@ -13,7 +13,7 @@ use pit_units::Dec;
 pub enum BlockValues<'a> {
     /// In units of 100 cents, as in an instance.
     Hundreds(&'a [Dec]),
-    /// In cents, as in the worths of a row.
+    /// In cents, like the worths of a row.
     Cents(&'a [i64]),
 }
 
