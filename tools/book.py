@@ -93,9 +93,9 @@ def file_of(page: str) -> Optional[str]:
             path = os.path.join(crate, "src", *(ends or ["lib"])) + ".rt"
         else:
             path = os.path.join(crate, *rest[1:]) + ".antt"
-            lent = f"{crate}/specs/Lib.antt"
-            if not os.path.isfile(path) and rest[1] == "specs" and os.path.isfile(lent):
-                passed = re.search(rf"(?m)^pub use (\S+\.{rest[2]})$", shared.read(lent))
+            lib = f"{crate}/specs/Lib.antt"
+            if not os.path.isfile(path) and rest[1] == "specs" and os.path.isfile(lib):
+                passed = re.search(rf"(?m)^pub use (\S+\.{rest[2]})$", shared.read(lib))
                 return file_of(".".join([passed[1], *rest[3:]])) if passed else None
     return path if os.path.isfile(path) else None
 
@@ -375,10 +375,10 @@ class Book(NamedTuple):
     def counts(self) -> str:
         """Returns the definition files of the project, code among them, and their lines; the library's definitions, and its other words."""
         own = [piece for some in self.parts.values() for piece in some if is_own(piece.path)]
-        lent = [piece for some in self.parts.values() for piece in some if not is_own(piece.path)]
-        words, sentences = sum(len(piece.names) > 0 for piece in lent), sum(len(names) for names, _ in self.listed)
+        of_library = [piece for some in self.parts.values() for piece in some if not is_own(piece.path)]
+        words, sentences = sum(len(piece.names) > 0 for piece in of_library), sum(len(names) for names, _ in self.listed)
         return (f"{len({piece.path for piece in own})} pages, {lines_of(own):,} lines; of the library {words} definitions, "
-                f"{lines_of(lent):,} lines, and {sentences} words by a sentence")
+                f"{lines_of(of_library):,} lines, and {sentences} words by a sentence")
 
     def sections(self) -> List[Tuple[str, List[Piece]]]:
         """Returns what is printed below one heading: the parts from one file, without the contract of a call, which is in the contents."""

@@ -207,7 +207,7 @@ def compiled(text, files):
     worths = [[worth(*destination, block) for destination in destinations] for block in blocks]
     dollars = [[shortest(cents * 10000) for cents in row] for row in worths]
     best = [row.index(max(row)) for row in worths]
-    greatest = [row[place] for row, place in zip(dollars, best)]
+    largest = [row[place] for row, place in zip(dollars, best)]
     held = [(number, tonnes(block)) for number, block in enumerate(blocks) if block.mass]
     pcpsp = [f"{number} {place} {resource} {mass}" for number, mass in held
              for place in range(len(destinations))
@@ -217,9 +217,9 @@ def compiled(text, files):
     texts = [
         (block_line(number, block) for number, block in enumerate(blocks)),
         prec_text(lists_of(plan, blocks)).splitlines(),
-        model(plan, "UPIT", greatest, []),
+        model(plan, "UPIT", largest, []),
         model(plan, "PCPSP", list(map(" ".join, dollars)), pcpsp),
-        model(plan, "CPIT", greatest, cpit),
+        model(plan, "CPIT", largest, cpit),
     ]
     whole = ("".join(line + "\n" for line in lines) for lines in texts)
     return dict(zip(shared.ENDINGS, whole))

@@ -172,7 +172,7 @@ class Record:
         self.threads: List[int] = []
         self.strange: List[str] = []
         self.is_thread_refused = self.asks_place = False
-        self.lent: Dict[int, Used] = dict(enumerate(self.streams))
+        self.by_number: Dict[int, Used] = dict(enumerate(self.streams))
         for call in calls[:begin]:
             if call.name == "brk":
                 self.memory.take(call)
@@ -214,22 +214,22 @@ class Record:
         if (path, flags) not in OF_LIBRARY:
             self.files.append(used)
         if not call.error:
-            self.lent[call.result] = used
+            self.by_number[call.result] = used
         return "" if found[1] == "AT_FDCWD" else f"openat({call.args})"
 
     def use(self, call: Call) -> str:
         """Records a read, a write or a close."""
         number = int(call.args.split(",")[0])
-        used = self.lent.get(number)
+        used = self.by_number.get(number)
         if used is None:
             return f"{call.name} of the descriptor {number}, which is not open"
         if call.name == "close":
             used.closed = call
-            del self.lent[number]
+            del self.by_number[number]
         else:
             used.calls.append(call)
         return ""
 
     def left_open(self) -> Iterator[Used]:
         """Returns the files that were never closed."""
-        return (used for number, used in self.lent.items() if number > 2)
+        return (used for number, used in self.by_number.items() if number > 2)

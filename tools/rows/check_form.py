@@ -180,7 +180,7 @@ def at_its_ends(index, tonnes, zone, value, counts, rate, name):
 
 ENDS = [
     ("the least", at_its_ends("0", "0", "0", -(10**18), (1, 1, 1), "0", "-")),
-    ("the greatest",
+    ("the largest",
      at_its_ends("9999", "1000000", "63", 10**18, (100, 8, 8), "1", "Az_9." * 12 + "-09Z")),
     ("written in full", at_its_ends(
         "+09999.0", "001000000.0000", "063.", f"+{10**18}.0000000", (100, 8, 8), "1.000000", "a")),

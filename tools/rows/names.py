@@ -63,7 +63,7 @@ def rows_of(name, near, base=None):
 
 
 def in_folders():
-    """Names in folders whose names have the greatest length: paths of 500 bytes and of 1,500."""
+    """Names in folders whose names have the largest length: paths of 500 bytes and of 1,500."""
     for depth in (2, 6):
         folders = [named(LONGEST - 5, letter) for letter in "abcdef"[:depth]]
         paths = {"/".join(folders[: count + 1]): Folder() for count in range(depth)}

@@ -452,7 +452,7 @@ def trials():
         yield at_every_edge(f"{count} bands", [(7 + 10 * i, 1000 - 3 * i) for i in range(count)])
     yield at_every_edge("16 bands that fall and rise", [(at * at, at * 7 % 16) for at in range(16)])
     yield at_every_edge("16 bands at the end", [(10**12 - 15 + at, 900 + at) for at in range(16)])
-    yield at_every_edge("the greatest start", [(10**6, 300), (2_500_000, 450), (10**12, 0)])
+    yield at_every_edge("the largest start", [(10**6, 300), (2_500_000, 450), (10**12, 0)])
     yield at_every_edge("the least start", [(0, 1000)])
     given = piped(fullest.PLAN, *fullest.ZONES)
     yield Trial("as much as a plan may hold", given=given, out=sections(fullest.TEXTS))
