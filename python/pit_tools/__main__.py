@@ -36,7 +36,7 @@ def main() -> int:
     look_nowhere_else()
     from pit_tools.version import missing_packages
 
-    if sys.argv[1:] == ["--lacking"]:
+    if sys.argv[1:] == ["--missing"]:
         print(missing_packages())
         return int(bool(missing_packages()))
     from pit_tools.cli import main as run
