@@ -10,7 +10,7 @@ NEEDED = ("pandas", "numpy", "scipy", "matplotlib", "openpyxl")
 
 
 def missing_packages() -> str:
-    """Returns the packages that this Python is missing, which the launcher gets by --lacking."""
+    """Returns the packages that this Python is missing, which the launcher gets by --missing."""
     import importlib.util
 
     if sys.version_info < (3, 9):

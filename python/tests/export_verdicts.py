@@ -58,7 +58,7 @@ def verdict_of(export: Export) -> Verdict:
     line = ""
     if export.rejected:
         try:
-            text = "\n".join(f"- {one}" for one in imported(export, **export.first).report.doubts)
+            text = "\n".join(f"- {one}" for one in imported(export, **export.first).report.warnings)
             outcome = "reported"
         except UserError as error:
             text, outcome = str(error), "refused"

@@ -133,10 +133,10 @@ DOUBTS = [(lambda: mapped(3, lambda text: "2.7"), {}, "are they densities"),
 @pytest.mark.parametrize("lines, changed, message", DOUBTS,
                          ids=[message or "depths" for _, _, message in DOUBTS])
 def test_what_may_be_wrong_is_reported(tmp_path, lines, changed, message):
-    doubts = imported(tmp_path, lines(), **changed).report.doubts
+    warnings = imported(tmp_path, lines(), **changed).report.warnings
     pattern = message or "is z a depth"
-    assert len(doubts) == 1 and re.search(pattern, doubts[0]), doubts
-    assert imported(tmp_path, rows()).report.doubts == []
+    assert len(warnings) == 1 and re.search(pattern, warnings[0]), warnings
+    assert imported(tmp_path, rows()).report.warnings == []
 
 
 @pytest.mark.parametrize("cells, decimal, thousands",

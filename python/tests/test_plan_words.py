@@ -99,7 +99,7 @@ def test_sectors_of_azimuth_become_the_sides_that_lie_in_them():
     assert not any("border" in note for note in message.notes)
     four = sides_of("0-180 50, 180-360 40", 90, message)
     assert [round(degrees_of(slope)) for slope in four] == [50, 40, 40, 40]
-    assert sum("border" in note for note in message.notes) == 2 and not message.doubts
+    assert sum("border" in note for note in message.notes) == 2 and not message.warnings
 
 
 @pytest.mark.parametrize("changed, message", [
@@ -156,9 +156,9 @@ def test_words_that_cannot_be_right_are_named(changed, message):
 ])
 def test_what_may_be_wrong_is_reported(changed, message):
     _, explained = plan_from(Spoken(**{**WORDS, **changed}), GRID, ["oxide", "west"], 12)
-    assert any(message in doubt for doubt in explained.doubts)
+    assert any(message in doubt for doubt in explained.warnings)
     _, sound = plan_from(Spoken(**{**WORDS, "K": None}), GRID, ["oxide", "west"], 12)
-    assert not sound.doubts
+    assert not sound.warnings
 
 
 def test_a_band_in_ounces_begins_at_a_grade_that_a_plan_takes():

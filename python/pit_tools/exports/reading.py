@@ -114,11 +114,11 @@ def read_source(source: Source, columns: Columns, reading: Reading, report: Repo
                              thousands=words.thousands, missing=words.missing)
             reading.unclear_point = reading.unclear_point or marks.unclear_point
             report.facts.append(source.description())
-            report.doubts += unit_warnings(columns, source.names, source.units)
+            report.warnings += unit_warnings(columns, source.names, source.units)
             report.facts += grade_units(columns, source.names, source.units, source.path)
             report.facts += last_line_warning(source)
-            report.doubts += [*source.doubts(), *hidden_text(source),
-                              *places_warnings(columns, source.names)]
+            report.warnings += [*source.warnings(), *hidden_text(source),
+                                *places_warnings(columns, source.names)]
         Chunk(table, source, columns, marks, reading).take()
         progress.report(f"{reading.counts['rows']:,} rows of {source.path}")
     if marks is not None:
@@ -144,18 +144,18 @@ def places_warnings(columns: Columns, names: Sequence[str]) -> list[str]:
     blocks, or a northing as x."""
     named = {key: " ".join(names[at].split()) for key in COORDINATES if key in columns.measures
              if (at := columns.measures[key].formula.plain_column) is not None}
-    doubts = []
+    warnings = []
     edges = [(key, name) for key, name in named.items()
              if EDGE.fullmatch(re.sub(r"[\W_]", "", name.casefold()))]
     if edges:
         key, name = edges[0]
-        doubts.append(f"{', '.join(name for _, name in edges)} seem to be edges of blocks, but "
-                      f"coordinates must be centroids: add half a block, as --{key} '{name} + 10' "
-                      "if blocks are 20 m long")
+        warnings.append(f"{', '.join(name for _, name in edges)} seem to be edges of blocks, but "
+                        f"coordinates must be centroids: add half a block, as --{key} "
+                        f"'{name} + 10' if blocks are 20 m long")
     if re.match("(?i)north", named.get("x", "")) and re.match("(?i)east", named.get("y", "")):
-        doubts.append(f"x is {named['x']} and y {named['y']}: x must go east, and y north, or the "
-                      "mine is mirrored")
-    return doubts
+        warnings.append(f"x is {named['x']} and y {named['y']}: x must go east, and y north, or "
+                        "the mine is mirrored")
+    return warnings
 
 
 def _key_column(columns: Columns) -> int:

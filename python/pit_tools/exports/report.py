@@ -6,16 +6,16 @@ from dataclasses import dataclass, field
 
 @dataclass
 class Report:
-    """The report of an import: `facts` in order, and `doubts`, warnings of what may be wrong."""
+    """The report of an import: `facts` in order, and `warnings` of what may be wrong."""
 
     facts: list[str] = field(default_factory=list)
-    doubts: list[str] = field(default_factory=list)
+    warnings: list[str] = field(default_factory=list)
 
     def text(self) -> str:
         lines = list(self.facts)
-        if self.doubts:
+        if self.warnings:
             lines += ["", "LOOK AT"]
-            lines += [f"- {line}" for line in self.doubts]
+            lines += [f"- {line}" for line in self.warnings]
         return "\n".join(lines)
 
 

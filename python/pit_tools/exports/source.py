@@ -251,7 +251,7 @@ class Source:
         without = f"; omitted: {omitted}, without these columns" if omitted else ""
         return f"{self.path}: {how}; {header}{units}{without}"
 
-    def doubts(self) -> list[str]:
+    def warnings(self) -> list[str]:
         """Yields warnings about how it is read."""
         return ([f"{self.path}: {self.encoding_text}"]
                 if self.encoding_text.endswith(LIKE_CYRILLIC) else [])

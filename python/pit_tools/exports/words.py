@@ -389,7 +389,7 @@ def unit_warnings(columns: Columns, names: Sequence[str],
                   units: Sequence[Sequence[str]]) -> list[str]:
     """Yields lines about columns whose header or row of units names a unit other than the one by
     which they are read."""
-    doubts = []
+    warnings = []
     for key, measure in columns.measures.items():
         at, kind = measure.plain_column, KINDS[key]
         if at is None or not kind or measure.unit or key == "grade":
@@ -400,15 +400,15 @@ def unit_warnings(columns: Columns, names: Sequence[str],
             try:
                 factor = factor_of(unit, kind) if unit else None
             except UserError as error:
-                doubts.append(f"`{' '.join(text.split())}` of the column {names[at]}: {error}; it "
-                              f"is read as {TAKEN[kind]}")
+                warnings.append(f"`{' '.join(text.split())}` of the column {names[at]}: {error}; "
+                                f"it is read as {TAKEN[kind]}")
                 break
             if factor not in (None, 1):
-                doubts.append(f"the column {names[at]} has the unit `{unit}`, but is read as "
-                              f"{TAKEN[kind]}: if it is in {unit}, give --{key.replace('_', '-')} "
-                              f"'{names[at]} {unit}'")
+                warnings.append(f"the column {names[at]} has the unit `{unit}`, but is read as "
+                                f"{TAKEN[kind]}: if it is in {unit}, give "
+                                f"--{key.replace('_', '-')} '{names[at]} {unit}'")
                 break
-    return doubts
+    return warnings
 
 
 def grade_units(columns: Columns, names: Sequence[str], units: Sequence[Sequence[str]],

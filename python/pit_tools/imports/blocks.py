@@ -152,7 +152,7 @@ class Imported:
                               "K": self.benches.get(name)}
                              for name, path in zip(self.zones, paths)],
                    "frame": asdict(self.frame), "reconciled": self.reconciled().record(),
-                   "facts": self.report.facts, "look_at": self.report.doubts}
+                   "facts": self.report.facts, "look_at": self.report.warnings}
         progress.step("writes zone files")
         with outputs.together(exports, record=base + ".json", others=()):
             for zone, path in enumerate(paths):

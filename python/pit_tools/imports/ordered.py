@@ -55,10 +55,10 @@ class Ordered:
         order = [cell.strip() for cell in self.words.order.split(",")]
         found = likelier_order(rock, blocks, order)
         if found:
-            self.report.doubts.append(f"in the order {self.words.order} rock and air are "
-                                      f"scattered, but in the order {found} they are connected: is "
-                                      f"it --order {found}, or with signs, as "
-                                      f"{found.replace('z', '-z')}?")
+            self.report.warnings.append(f"in the order {self.words.order} rock and air are "
+                                        f"scattered, but in the order {found} they are connected: "
+                                        f"is it --order {found}, or with signs, as "
+                                        f"{found.replace('z', '-z')}?")
 
     def indexed(self) -> tuple[list[Axis], list[np.ndarray]]:
         """The places of rows by their indices."""

@@ -102,7 +102,7 @@ class Places:
         x, y = (float(np.median(value)) / 1000 for value in values[:2])
         if (self.read.factors[0] == 1 and not self.words.in_feet
                 and NORTHINGS[0] <= x <= NORTHINGS[1] and EASTINGS[0] <= y <= EASTINGS[1]):
-            lines = self.report.doubts if x >= FAR else self.report.facts
+            lines = self.report.warnings if x >= FAR else self.report.facts
             lines.append(f"x is {x:,.0f} and y {y:,.0f} in the middle: in UTM that is a northing "
                          "as x and an easting as y, and the mine is mirrored. If so, exchange --x "
                          "and --y")

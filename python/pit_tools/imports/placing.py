@@ -69,7 +69,8 @@ class Placing:
         self.rows_report.report_grid(rows, axes)
         solid = those(rows, rows["tonnes"] > 0)
         model = self.model(solid, axes, zones)
-        report.doubts += [*rock_warnings(model), *export_warnings(solid, model, axes, self.reading)]
+        report.warnings += rock_warnings(model)
+        report.warnings += export_warnings(solid, model, axes, self.reading)
         del solid, model
         rows, files = cut_zones(rows[["ix", "iy", "iz", "tonnes", "grade", "zone"]], zones)
         if len(files) > len(zones):

@@ -35,7 +35,7 @@ class ImportedFile:
     frame: Frame
     benches: dict[str, int]
     facts: list[str]
-    doubts: list[str]
+    warnings: list[str]
     reconciled: Reconciled = Reconciled()
     rock_benches: int = 0
 

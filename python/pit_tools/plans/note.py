@@ -31,7 +31,7 @@ class ZoneSeen:
 @dataclass(frozen=True)
 class PlanNote:
     """`is_used` is false if there is none, and `why_not` is the reason why an existing one is not
-    used; `said` has pairs of a record and its explanation; `facts`, `doubts`, the `frame` of
+    used; `said` has pairs of a record and its explanation; `facts`, `warnings`, the `frame` of
     coordinates, the resource report and `exports`, the sums of what it read, come from `import`;
     `benches` is the height for which slopes were judged, 0 if it is unknown."""
 
@@ -42,7 +42,7 @@ class PlanNote:
     notes: list[str] = field(default_factory=list)
     exports: list[str] = field(default_factory=list)
     facts: list[str] = field(default_factory=list)
-    doubts: list[str] = field(default_factory=list)
+    warnings: list[str] = field(default_factory=list)
     frame: Frame = Frame()
     reconciled: Reconciled = Reconciled()
     benches: int = 0
@@ -99,9 +99,9 @@ def _are_of_one_run(*paths: str) -> bool:
 
 def _note_of(record: dict) -> PlanNote:
     said = [(str(first), str(second)) for first, second in record["said"]]
-    notes, exports, lines, doubts = ([str(line) for line in record[name]]
-                                     for name in ("notes", "exports", "facts", "doubts"))
+    notes, exports, lines, warnings = ([str(line) for line in record[name]]
+                                       for name in ("notes", "exports", "facts", "warnings"))
     zones = [ZoneSeen(str(zone["name"]), str(zone["file"])) for zone in record["zones"]]
     return PlanNote(True, Measures(**record["measures"]), zones, said, notes, exports,
-                    lines, doubts, Frame.of_record(record["frame"]),
+                    lines, warnings, Frame.of_record(record["frame"]),
                     Reconciled.of_record(record.get("reconciled")), int(record.get("benches", 0)))

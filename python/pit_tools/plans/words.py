@@ -41,14 +41,14 @@ class Explained:
     """The records of a plan, each with its explanation, the warnings, and the notes."""
 
     lines: list[tuple[str, str]] = field(default_factory=list)
-    doubts: list[str] = field(default_factory=list)
+    warnings: list[str] = field(default_factory=list)
     notes: list[str] = field(default_factory=list)
     measures: Measures = Measures()
 
     def text(self) -> str:
         width = min(44, max(len(record) for record, _ in self.lines))
         lines = [f"{record:{width}}  {wording}" for record, wording in self.lines]
-        for head, explained in (("LOOK AT", self.doubts), ("NOTE", self.notes)):
+        for head, explained in (("LOOK AT", self.warnings), ("NOTE", self.notes)):
             if explained:
                 lines += ["", head] + [f"- {line}" for line in explained]
         return "\n".join(lines)
@@ -264,10 +264,10 @@ def plan_from(words: Spoken, grid: Grid, zones: Sequence[str], benches: int,
                                                        ("--rate", words.rate, "8 % a year"))
                         if not given]
     resources, limits = _limits(words.limit, destinations, periods, in_year, explained)
-    explained.doubts += destination_warnings(destinations, words.is_return,
-                                             explained.measures.cost_text)
+    explained.warnings += destination_warnings(destinations, words.is_return,
+                                               explained.measures.cost_text)
     judged = judge(grid, records, zones, words.benches or benches, contacts=contacts(records))
-    explained.doubts += judged.look_at
+    explained.warnings += judged.look_at
     explained.notes += judged.notes
     return Plan(words.name, grid, tuple(records), tuple(destinations), periods, rate,
                 tuple(resources), tuple(limits)), explained

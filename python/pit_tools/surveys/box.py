@@ -40,7 +40,7 @@ def box(facts: Facts, inputs: Inputs) -> list[Entry]:
                      or [",".join(record) for record in facts.plan.records()]),
                Entry("note", note.notes), Entry("import", note.facts),
                Entry("reconciled", list(_reconciled(facts))),
-               Entry("import: look at", note.doubts), Entry("inputs", list(_sums(facts, inputs)))]
+               Entry("import: look at", note.warnings), Entry("inputs", list(_sums(facts, inputs)))]
     return [entry for entry in entries if entry.lines]
 
 

@@ -181,7 +181,7 @@ def run(args: argparse.Namespace) -> int:
             imported.reconciliation.judge()
         paths = imported.write(args.out) if args.out else []
     if args.json:
-        print_json({"facts": imported.report.facts, "doubts": imported.report.doubts,
+        print_json({"facts": imported.report.facts, "warnings": imported.report.warnings,
                     "zones": imported.holdings, "records": imported.records(),
                     "written": paths, "removed": list(inputs.removed())})
         return 0

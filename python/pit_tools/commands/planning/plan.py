@@ -210,4 +210,4 @@ def _note(path: str, imported: ImportedFile, explained: Explained, benches: int)
              for name, path in zip(imported.zones, imported.files)]
     return PlanNote(True, explained.measures, zones, explained.lines, explained.notes,
                     [file.line.rstrip() for file in record.inputs] if record else [],
-                    imported.facts, imported.doubts, imported.frame, imported.reconciled, benches)
+                    imported.facts, imported.warnings, imported.frame, imported.reconciled, benches)
