@@ -2,4 +2,3 @@ pub mod CountedFacts
 pub mod LaterLines
 pub mod FedAnswers
 pub mod MarkFacts
-pub mod LimitSteps

@@ -1,5 +1,5 @@
 pub mod FaultFacts
+pub mod FormFacts
 pub mod ItemLines
 pub mod LineFacts
-pub mod LineFields
 pub mod PrecTests

@@ -2,6 +2,8 @@ pub mod BlockText
 pub mod Denotes
 pub mod FedCounts
 pub mod HeaderNumbers
+pub mod LineFields
+pub mod LineForms
 pub mod ModelDraft
 pub mod ModelKeys
 pub mod ModelText

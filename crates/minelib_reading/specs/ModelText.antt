@@ -1,11 +1,9 @@
--- What a line of a model file adds to earlier lines, field by field, or the kind of its first fault; and what a file states.
-use Rattle.std.specs.Prelude.{ℕ, ◌+◌, ◌==◌, ◌||◌, not, Bool, List, [], ◌∷◌, ◌++◌, length, drop, ℤ, codes, Option, Some, None, Result, Ok, Err, if◌then◌else◌}
+-- What a line of a model file adds to earlier lines, or the kind of its first fault; and what a file states.
+use Rattle.std.specs.Prelude.{ℕ, ◌+◌, ◌==◌, ◌||◌, not, List, [], ◌∷◌, ◌++◌, length, ℤ, codes, Option, Some, None, Result, Ok, Err, if◌then◌else◌}
 use Rattle.std.specs.List.{list_any, before_first, after_first}
 use Rattle.std.specs.Str.{bytes_eq}
-use Rattle.pit_units.specs.Steps.{◌>>=◌, each_of}
+use Rattle.pit_units.specs.Steps.{◌>>=◌}
 use Rattle.plan_parts.specs.PlanInvariant.{is_turned, stands_before}
-use Rattle.plan_parts.specs.declared.limit.Bound.{Bound}
-use Rattle.plan_parts.specs.declared.limit.Bound.TheVariants.{AtMost, AtLeast, Between}
 use Rattle.plan_parts.specs.declared.limit.Limit.{Limit}
 use Rattle.mine_instance.specs.Order.{coef_before}
 use Rattle.mine_instance.specs.declared.coefs.coef.Coef.{Coef}
@@ -14,6 +12,8 @@ use Rattle.minelib_lines.specs.declared.header_key.HeaderKey.TheVariants as key
 use Rattle.minelib_lines.specs.declared.problem.Problem.{Problem}
 use Rattle.minelib_lines.specs.declared.problem.Problem.TheVariants.{Pcpsp, Cpit}
 use Rattle.minelib_reading.specs.HeaderNumbers.{count_in, is_given, with_key}
+use Rattle.minelib_reading.specs.LineFields.{item_in}
+use Rattle.minelib_reading.specs.LineForms.{coef_form, limit_form, values_form}
 use Rattle.minelib_reading.specs.ModelDraft.{ModelDraftView, blank_model, is_after, is_heading, is_next, is_ready, is_whole, last_of, name_with}
 use Rattle.minelib_reading.specs.ModelKeys.{is_colon, key_of, number_stated}
 use Rattle.minelib_reading.specs.declared.model.key.ModelKey.{ModelKey}
@@ -21,11 +21,11 @@ use Rattle.minelib_reading.specs.declared.model.key.ModelKey.TheVariants as mode
 use Rattle.minelib_reading.specs.declared.model.key.Section.{Section}
 use Rattle.minelib_reading.specs.declared.model.key.Section.TheVariants.{Heading, Objective, Coefs, Limits}
 use Rattle.text_lines.specs.Reading.{read_lines}
-use Rattle.text_lines.specs.StatedFields.{below_in, decimal_in, field_at}
+use Rattle.text_lines.specs.StatedFields.{field_at}
 use Rattle.text_lines.specs.TextLines.{end_of, fields_of, lines_in}
 use Rattle.text_lines.specs.declared.text_fault.LineFault.{LineFault}
 use Rattle.text_lines.specs.declared.text_fault.TextKind.{TextKind}
-use Rattle.text_lines.specs.declared.text_fault.TextKind.TheVariants.{Fields, Order, Twice, Key, Missing, Name}
+use Rattle.text_lines.specs.declared.text_fault.TextKind.TheVariants.{Fields, Order, Twice, Key, Missing}
 
 -- `KEY: value` before the first section; each key appears once
 unfoldable pub key_stated : ModelDraftView → HeaderKey → List (List ℕ) → Result ModelDraftView TextKind
@@ -50,48 +50,27 @@ keyed_stated d None fields = Err Key
 keyed_stated d (Some (model_key.Header k)) fields = key_stated d k fields
 keyed_stated d (Some (model_key.Section section)) fields = section_stated d section fields
 
--- `b v0 v1 ..` for the next of n blocks: a value for each destination
+-- the values of the block `before`, one of n: one for each destination
 unfoldable pub values_stated : ℕ → ℕ → ℕ → List (List ℕ) → Result (List ℤ) TextKind
 values_stated n destinations before fields =
-    if not (length fields == destinations + 1) then Err Fields else do
-      b ← below_in n (field_at fields 0)
-      values ← each_of decimal_in (drop 1 fields)
-      if not (b == before) then Err Order else Ok values
+    if not (length fields == destinations + 1) then Err Fields else item_in (values_form n before) fields
 
--- the coefficient `b d r v`; `b r v` in a CPIT, which has one destination
+-- a coefficient
+abbrev pub coef_width : Problem → ℕ
+coef_width Pcpsp = 4
+coef_width Cpit = 3
+
 unfoldable pub coef_stated : Problem → ℕ → ℕ → ℕ → List (List ℕ) → Result Coef TextKind
-coef_stated Pcpsp n destinations resources fields =
-    if not (length fields == 4) then Err Fields else do
-      b ← below_in n (field_at fields 0)
-      d ← below_in destinations (field_at fields 1)
-      r ← below_in resources (field_at fields 2)
-      v ← decimal_in (field_at fields 3)
-      Ok (record { b = b; d = d; r = r; v = v })
-coef_stated Cpit n destinations resources fields =
-    if not (length fields == 3) then Err Fields else do
-      b ← below_in n (field_at fields 0)
-      r ← below_in resources (field_at fields 1)
-      v ← decimal_in (field_at fields 2)
-      Ok (record { b = b; d = 0; r = r; v = v })
+coef_stated problem n destinations resources fields =
+    if not (length fields == coef_width problem) then Err Fields else item_in (coef_form problem n destinations resources) fields
 
--- the limit `r t L v`, `r t G v` or `r t I v w`
-abbrev pub has_letter : List (List ℕ) → List ℕ → Bool
-has_letter fields letter = bytes_eq (field_at fields 2) letter
-
-abbrev pub bound_stated : List (List ℕ) → Result Bound TextKind
-bound_stated fields =
-    if has_letter fields (codes "L") then (decimal_in (field_at fields 3) >>= λ v. Ok (AtMost v))
-    else (if has_letter fields (codes "G") then (decimal_in (field_at fields 3) >>= λ v. Ok (AtLeast v))
-    else (if has_letter fields (codes "I") then (decimal_in (field_at fields 3) >>= λ v. decimal_in (field_at fields 4) >>= λ w. Ok (Between v w))
-    else Err Name))
+-- a limit: an interval has five fields
+abbrev pub limit_width : List (List ℕ) → ℕ
+limit_width fields = if bytes_eq (field_at fields 2) (codes "I") then 5 else 4
 
 unfoldable pub limit_stated : ℕ → ℕ → List (List ℕ) → Result Limit TextKind
 limit_stated resources periods fields =
-    if not (length fields == (if has_letter fields (codes "I") then 5 else 4)) then Err Fields else do
-      resource ← below_in resources (field_at fields 0)
-      period ← below_in periods (field_at fields 1)
-      bound ← bound_stated fields
-      Ok (record { resource = resource; period = period; bound = bound })
+    if not (length fields == limit_width fields) then Err Fields else item_in (limit_form resources periods) fields
 
 -- a line without a colon, in its section: coefficients and limits follow the last one, and no interval has its ends reversed
 abbrev pub item_stated : ModelDraftView → Section → List (List ℕ) → Result ModelDraftView TextKind

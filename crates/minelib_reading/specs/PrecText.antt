@@ -1,34 +1,17 @@
--- What a line of a precedence file states, field by field, or the kind of its first fault; and the predecessors of a file.
-use Rattle.std.specs.Prelude.{ℕ, ◌==◌, ◌&&◌, ◌||◌, nat_lt, not, Bool, true, List, [], ◌∷◌, ◌++◌, length, drop, Result, Ok, Err, if◌then◌else◌}
-use Rattle.std.specs.List.{list_any}
-use Rattle.pit_units.specs.Steps.{◌>>=◌, each_of}
+-- What a line of a precedence file states, or the kind of its first fault; and the predecessors of a file.
+use Rattle.std.specs.Prelude.{ℕ, ◌==◌, nat_lt, List, [], ◌∷◌, ◌++◌, length, Result, Ok, Err, if◌then◌else◌}
+use Rattle.pit_units.specs.Steps.{◌>>=◌}
 use Rattle.text_lines.specs.Reading.{read_lines}
-use Rattle.text_lines.specs.StatedFields.{below_in, field_at}
 use Rattle.text_lines.specs.TextLines.{end_of, fields_of, lines_in}
 use Rattle.text_lines.specs.declared.text_fault.LineFault.{LineFault}
 use Rattle.text_lines.specs.declared.text_fault.TextKind.{TextKind}
-use Rattle.text_lines.specs.declared.text_fault.TextKind.TheVariants.{Fields, Order, Count, Twice, Missing}
+use Rattle.text_lines.specs.declared.text_fault.TextKind.TheVariants.{Fields, Missing}
+use Rattle.minelib_reading.specs.LineFields.{item_in}
+use Rattle.minelib_reading.specs.LineForms.{preds_form}
 
--- the number is in the list
-abbrev pub stands_in : List ℕ → ℕ → Bool
-stands_in ids id = list_any (λ other. other == id) ids
-
--- no number appears twice
-abbrev pub all_differ : List ℕ → Bool
-all_differ [] = true
-all_differ (id ∷ ids) = not (stands_in ids id) && all_differ ids
-
--- `id k p1 .. pk` for the next of n blocks: the k predecessors, all distinct and other than the block; a k of n or more is out of
--- range
+-- the predecessors of the block `own`, one of n
 unfoldable pub preds_stated : ℕ → ℕ → List (List ℕ) → Result (List ℕ) TextKind
-preds_stated n own fields =
-    if nat_lt (length fields) 2 then Err Fields else do
-      id ← below_in n (field_at fields 0)
-      k ← below_in n (field_at fields 1)
-      ids ← each_of (below_in n) (drop 2 fields)
-      if not (id == own) then Err Order else (
-          if not (k == length ids) then Err Count else (
-          if stands_in ids own || not (all_differ ids) then Err Twice else Ok ids))
+preds_stated n own fields = if nat_lt (length fields) 2 then Err Fields else item_in (preds_form n own) fields
 
 -- the predecessors of the lines so far, followed by the predecessors of a line
 abbrev pub with_preds : ℕ → List (List ℕ) → List ℕ → Result (List (List ℕ)) TextKind

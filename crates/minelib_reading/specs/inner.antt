@@ -3,4 +3,3 @@ pub mod LinesTaken
 pub mod Marks
 pub mod ModelFields
 pub mod ModelParts
-pub mod UncountedItems

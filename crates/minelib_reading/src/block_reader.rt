@@ -4,7 +4,8 @@ ghost use Rattle.std.specs.Prelude.{◌≡◌, ◌<◌, ◌≤◌, [], length, I
 ghost use Rattle.plan_parts.specs.Block.{block_with};
 ghost use Rattle.plan_parts.specs.BlockParts.{AreInRange};
 ghost use Rattle.minelib_reading.specs.BlockText.{block_stated, blocks_in, with_block};
-ghost use Rattle.minelib_reading.specs.inner.LinesTaken.{uncounted_block};
+ghost use Rattle.minelib_reading.specs.LineFields.{item_in};
+ghost use Rattle.minelib_reading.specs.LineForms.{block_form};
 ghost use Rattle.pit_units.specs.OrMemory.{Gives};
 ghost use Rattle.text_lines.specs.TextLines.{fields_of};
 ghost use Rattle.plan_parts.specs.declared.ranges.TheConstants.{MAX_BLOCKS};
@@ -77,9 +78,8 @@ fn block_in_line(line: &[u8], before: usize) -> Result<Block, TextKind>
 }
 
 #[inline(always)]
-#[tactic(auto, using(crate::proofs::counts::LaterLines::block_read))]
 fn uncounted_block(line: &[u8], before: usize) -> Result<Block, TextKind>
-    ensures value { result ≡ uncounted_block before (fields_of line.now) }
+    ensures value { result ≡ item_in (block_form before) (fields_of line.now) }
     ensures few { OnOk result (before < MAX_BLOCKS) }
 {
     let (id, after_id) = first_integer(line, MAX_BLOCKS as u64)?;

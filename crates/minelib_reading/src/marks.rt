@@ -2,7 +2,7 @@
 
 ghost use Rattle.std.specs.Prelude.{◌≡◌, ◌<◌, ◌≤◌, length, All, IfOk};
 ghost use Rattle.minelib_reading.specs.inner.Marks.{AreClear, AreMarked, rise_above};
-ghost use Rattle.minelib_reading.specs.PrecText.{all_differ};
+ghost use Rattle.minelib_reading.specs.LineForms.{all_differ};
 ghost use Rattle.plan_parts.specs.declared.ranges.TheConstants.{MAX_BLOCKS};
 
 use std::alloc::{AllocError, Global};

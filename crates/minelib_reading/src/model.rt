@@ -5,4 +5,5 @@ pub mod header;
 pub mod items;
 pub mod key;
 pub mod key_lines;
+pub mod limit_lines;
 pub mod reader;

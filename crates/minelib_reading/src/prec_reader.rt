@@ -3,8 +3,10 @@
 ghost use Rattle.std.specs.Prelude.{◌≡◌, ◌<◌, ◌≤◌, ◌&&◌, [], not, All, IfOk, OnOk, length};
 ghost use Rattle.text_lines.specs.FieldValues.{all_by};
 ghost use Rattle.text_lines.specs.StatedFields.{below_in};
-ghost use Rattle.minelib_reading.specs.inner.LinesTaken.{admit_preds, no_lists, uncounted_preds};
-ghost use Rattle.minelib_reading.specs.PrecText.{all_differ, finish_preds, preds_in, preds_stated, stands_in};
+ghost use Rattle.minelib_reading.specs.inner.LinesTaken.{admit_preds, no_lists};
+ghost use Rattle.minelib_reading.specs.LineFields.{item_in};
+ghost use Rattle.minelib_reading.specs.LineForms.{all_differ, preds_form, stands_in};
+ghost use Rattle.minelib_reading.specs.PrecText.{finish_preds, preds_in, preds_stated};
 ghost use Rattle.pit_units.specs.OrMemory.{Gives};
 ghost use Rattle.text_lines.specs.Reading.{Leaves};
 ghost use Rattle.text_lines.specs.TextLines.{fields_of};
@@ -68,14 +70,13 @@ fn preds_in_line(
 }
 
 // Reads the predecessors of a line with two or more fields.
-#[tactic(auto, using(crate::proofs::counts::LaterLines::uncounted_preds_read))]
 fn uncounted_preds(
     line: &[u8],
     before: usize,
     ids: &mut Vec<u32>,
     marks: &mut Marks,
 ) -> Result<(), OrMemory<TextKind>>
-    ensures value { Leaves ids.new.items result (uncounted_preds marks.old before (fields_of line.now)) }
+    ensures value { Leaves ids.new.items result (item_in (preds_form marks.old before) (fields_of line.now)) }
     ensures kept { marks.new ≡ marks.old }
     ensures few { OnOk result ((before < MAX_BLOCKS) × (length ids.new.items ≤ MAX_BLOCKS)) }
 {

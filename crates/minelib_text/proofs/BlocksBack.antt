@@ -1,6 +1,6 @@
 -- The text of blocks and that of predecessors spell them.
-use Rattle.std.specs.Prelude.{List, ℕ, ◌*◌, ◌^◌, ◌≢◌}
-use Rattle.std.proofs.Common.{[], arith, eqb, length, refl, subst, sym, ◌<◌, ◌∷◌, ◌≡◌, ◌≤◌}
+use Rattle.std.specs.Prelude.{List, decimal, ℕ, ◌^◌, ◌≢◌}
+use Rattle.std.proofs.Common.{[], ap, arith, eqb, length, refl, subst, sym, ◌<◌, ◌∷◌, ◌≡◌, ◌≤◌}
 use Rattle.std.proofs.lemmas.Bool.{eqb-true, ne_eqb}
 use Rattle.std.proofs.lemmas.List.Elements.{All-cons, All-contains}
 use Rattle.std.proofs.lemmas.List.Kept.{AllPairs-cons}
@@ -9,48 +9,33 @@ use Rattle.std.proofs.lemmas.Map.Steps.{length-le_from_distinct_below}
 use Rattle.std.proofs.lemmas.Map.Views.{Contains-from_any}
 use Rattle.plan_parts.specs.declared.block.Block.{Block}
 use Rattle.mine_instance.specs.Valid.{ArePreds, ArePredsOf}
-use Rattle.text_lines.proofs.PlainText.{EachField, IsLine}
+use Rattle.text_lines.proofs.PlainText.{IsLine}
 use Rattle.text_lines.specs.TextLines.{fields_of}
 use Rattle.minelib_lines.specs.Lines.{line_of, lines_from, text_of}
 use Rattle.minelib_writing.specs.Written.{block_line, prec_line}
-use Rattle.minelib_reading.proofs.keys.Keyless.{number_field}
 use Rattle.minelib_reading.proofs.models.Places.{is_place, stands_there}
+use Rattle.minelib_reading.specs.LineFields.{Below, fields_by}
+use Rattle.minelib_reading.specs.LineForms.{block_form, preds_form}
 use Rattle.minelib_reading.specs.encoded.EncodedItems.{EncodesBlock, EncodesPreds}
 use Rattle.minelib_reading.specs.encoded.EncodedTexts.{EncodeBlocks, EncodePreds}
 use Rattle.minelib_text.proofs.LinesBack.{text_encodes}
-use Rattle.minelib_text.proofs.PlainLines.{plain_line}
-use Rattle.minelib_text.proofs.WrittenNumbers.{below_field, below_written, size_written, wholes_written}
+use Rattle.minelib_text.proofs.WrittenNumbers.{each_writable, line_back, written_same}
 
 block_written : (id : ℕ) (b : Block) → id < 64000000
     → IsLine (line_of (block_line id b)) × EncodesBlock id (fields_of (line_of (block_line id b))) b
-block_written id b low =
-    let encodes : EncodesBlock id (block_line id b) b = record {
-      seven = refl;
-      id = below_written 64000000 id low (omega arith);
-      x = below_written 10000 b.x b.x_in_grid (omega arith);
-      y = below_written 10000 b.y b.y_in_grid (omega arith);
-      z = below_written 10000 b.z b.z_in_grid (omega arith);
-      tonnes = size_written 3 (10 ^ 9 * 1000) (b.kg * 1000) (omega arith) (omega (arith, b.kg_in_range)) (omega arith) (omega arith);
-      grade = size_written 6 (10 ^ 12) b.grade (omega arith) b.grade_in_range (omega arith) (omega arith);
-      zone = below_written 64 b.zone b.zone_in_range (omega arith);
-    } in
-    let fields : EachField (block_line id b) = (
-      below_field _ _ _ encodes.id,
+block_written id b low = line_back (block_line id b) (fields_by (block_form id) b) refl (omega arith) (
+  (low, omega arith),
+  (
+    (b.x_in_grid, omega arith),
+    (
+      (b.y_in_grid, omega arith),
       (
-        below_field _ _ _ encodes.x,
-        (
-          below_field _ _ _ encodes.y,
-          (
-            below_field _ _ _ encodes.z,
-            (
-              number_field 3 _ _ encodes.tonnes.0,
-              (number_field 6 _ _ encodes.grade.0, (below_field _ _ _ encodes.zone, tt)),
-            ),
-          ),
-        ),
+        (b.z_in_grid, omega arith),
+        ((omega (arith, b.kg_in_range), omega arith, omega arith), ((b.grade_in_range, omega arith), ((b.zone_in_range, omega arith), tt))),
       ),
-    ) in
-    plain_line (block_line id b) (λ fields. EncodesBlock id fields b) (omega arith) fields encodes
+    ),
+  ),
+)
 
 pub blocks_back : (blocks : List Block) → length blocks ≤ 64000000 → EncodeBlocks (text_of (lines_from block_line 0 blocks)) blocks
 blocks_back blocks few =
@@ -72,16 +57,12 @@ fewer own n ids below h =
 preds_written : (n own : ℕ) (ids : List ℕ) → n ≤ 64000000 → own < n → ArePredsOf own n ids
     → IsLine (line_of (prec_line own ids)) × EncodesPreds n own (fields_of (line_of (prec_line own ids))) ids
 preds_written n own ids few low are =
-    let each = wholes_written n ids few are.below in
-    let encodes : EncodesPreds n own (prec_line own ids) ids = record {
-      two = omega arith;
-      id = below_written n own low (omega (arith, few));
-      count = below_written n (length ids) (fewer own n ids low are) (omega (arith, few));
-      each = each.0;
-      are = are;
-    } in
-    plain_line (prec_line own ids) (λ fields. EncodesPreds n own fields ids) (omega arith)
-    (below_field _ _ _ encodes.id, (below_field _ _ _ encodes.count, each.1)) encodes
+    let small : n ≤ 10 ^ 18 = omega (arith, few) in
+    let each = each_writable (Below n) ids (λ k d within. (are.below k d within, small)) in
+    let back = line_back (prec_line own ids) (fields_by (preds_form n own) ids)
+    (ap (λ more. decimal own ∷ decimal (length ids) ∷ more) (written_same (Below n) ids)) (omega arith)
+    ((low, small), ((fewer own n ids low are, small), each)) in
+    (back.0, (back.1, are))
 
 pub preds_back : (n : ℕ) (lists : List (List ℕ)) → n ≤ 64000000 → length lists ≡ n → ArePreds n lists
     → EncodePreds n (text_of (lines_from prec_line 0 lists)) lists

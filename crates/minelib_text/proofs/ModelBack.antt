@@ -1,10 +1,7 @@
 -- The text of a model file spells what it is written of.
-use Rattle.std.specs.Prelude.{List, codes, ℕ, ℤ}
-use Rattle.std.proofs.Common.{All, [], ap, append_assoc, arith, false, length, refl, subst, sym, true, ◌++◌, ◌+◌, ◌<◌, ◌∙◌, ◌∷◌, ◌≡◌, ◌≤◌}
-use Rattle.std.proofs.lemmas.List.{length-map}
+use Rattle.std.specs.Prelude.{List, codes, decimal, ℕ, ℤ}
+use Rattle.std.proofs.Common.{All, [], ap, append_assoc, arith, false, length, refl, subst, sym, ◌++◌, ◌+◌, ◌<◌, ◌∙◌, ◌∷◌, ◌≡◌, ◌≤◌}
 use Rattle.std.proofs.lemmas.List.Elements.{All-append, All-cons}
-use Rattle.std.specs.List.{list_all}
-use Rattle.pit_units.specs.Decimal.{shortest}
 use Rattle.pit_units.specs.DecimalRange.{IsInDecimalRange}
 use Rattle.plan_parts.specs.PlanInvariant.{is_turned}
 use Rattle.plan_parts.specs.declared.limit.Bound.{Bound}
@@ -12,38 +9,33 @@ use Rattle.plan_parts.specs.declared.limit.Bound.TheVariants.{AtLeast, AtMost, B
 use Rattle.plan_parts.specs.declared.limit.Limit.{Limit}
 use Rattle.mine_instance.specs.WellFormed.{HasDecimals}
 use Rattle.mine_instance.specs.declared.coefs.coef.Coef.{Coef}
-use Rattle.text_lines.proofs.PlainText.{EachField, IsField, IsLine, is_plain}
+use Rattle.text_lines.proofs.PlainText.{IsLine}
 use Rattle.text_lines.specs.TextLines.{Line, fields_of, lines_in}
 use Rattle.minelib_lines.specs.HeaderKeys.{keys_of, type_text}
 use Rattle.minelib_lines.specs.HeaderTable.{key_lines, key_text}
 use Rattle.minelib_lines.specs.Lines.{line_of, lines_from, text_of}
 use Rattle.minelib_lines.specs.declared.problem.Problem.{Problem}
 use Rattle.minelib_lines.specs.declared.problem.Problem.TheVariants.{Cpit, Pcpsp}
-use Rattle.minelib_writing.specs.Written.{bound_fields, coef_line, cpit_coef_line, limit_line, section_lines, value_line}
-use Rattle.minelib_reading.proofs.keys.Keyless.{number_field}
+use Rattle.minelib_writing.specs.Written.{coef_line, cpit_coef_line, limit_line, section_lines, value_line}
 use Rattle.minelib_reading.proofs.models.Places.{is_place, item_there}
 use Rattle.minelib_reading.proofs.models.ValidModel.{IsModel}
+use Rattle.minelib_reading.specs.LineFields.{Decimal, fields_by}
+use Rattle.minelib_reading.specs.LineForms.{coef_form, limit_form, values_form}
 use Rattle.minelib_reading.specs.StatedModel.{StatedModel}
-use Rattle.minelib_reading.specs.encoded.EncodedItems.{EncodesBound, EncodesCoef, EncodesLimit, EncodesValues}
+use Rattle.minelib_reading.specs.encoded.EncodedItems.{EncodesCoef, EncodesLimit, EncodesValues}
 use Rattle.minelib_reading.specs.encoded.EncodedModel.{AreModelLines, IsSingle}
 use Rattle.minelib_text.proofs.KeysBack.{header_lines, section_line, word_field}
 use Rattle.minelib_text.proofs.LinesBack.{IsEachWritten, items_written, numbered, numbered_both, text_lines}
-use Rattle.minelib_text.proofs.PlainLines.{plain_line}
-use Rattle.minelib_text.proofs.WrittenNumbers.{below_field, below_written, decimal_written, decimals_written}
+use Rattle.minelib_text.proofs.WrittenNumbers.{each_writable, line_back, written_same}
 
--- a block's values are written as they are spelled
+-- a block's values are written as they are encoded
 pub values_line : (n destinations block : ℕ) (vs : List ℤ) → n ≤ 64000000 → block < n → length vs ≡ destinations
     → All IsInDecimalRange vs
     → IsLine (line_of (value_line block vs)) × EncodesValues n destinations block (fields_of (line_of (value_line block vs))) vs
 values_line n destinations block vs few low as_many kept =
-    let each = decimals_written vs kept in
-    let encodes : EncodesValues n destinations block (value_line block vs) vs = record {
-      as_many = omega (arith, as_many, length-map vs shortest);
-      id = below_written n block low (omega (arith, few));
-      each = each.0;
-    } in
-    plain_line (value_line block vs) (λ fields. EncodesValues n destinations block fields vs) (omega arith)
-    (below_field _ _ _ encodes.id, each.1) encodes
+    let back = line_back (value_line block vs) (fields_by (values_form n block) vs) (ap (λ more. decimal block ∷ more) (written_same Decimal vs))
+    (omega arith) ((low, omega (arith, few)), each_writable Decimal vs kept) in
+    (back.0, (back.1, as_many))
 
 -- a coefficient, and one of a CPIT, which is of its only destination
 abbrev pub coef_text : Problem → ℕ → Coef → List (List ℕ)
@@ -54,43 +46,32 @@ coefs_line : (p : Problem) (n destinations resources k : ℕ) (c : Coef) → n �
     → (c.b < n) × (c.d < destinations) × (c.r < resources) → IsInDecimalRange c.v → IsSingle p destinations
     → IsLine (line_of (coef_text p k c)) × EncodesCoef p n destinations resources (fields_of (line_of (coef_text p k c))) c
 coefs_line Pcpsp n destinations resources k c few many small within kept single =
-    let b = below_written n c.b within.0 (omega (arith, few)) in
-    let d = below_written destinations c.d within.1 (omega (arith, many)) in
-    let r = below_written resources c.r within.2 (omega (arith, small)) in
-    let v = decimal_written c.v kept in
-    plain_line (coef_line k c) (λ fields. EncodesCoef Pcpsp n destinations resources fields c) (omega arith)
-    (below_field _ _ _ b, (below_field _ _ _ d, (below_field _ _ _ r, (number_field 6 _ _ v, tt)))) (refl, b, d, r, v)
+    line_back (coef_line k c) (fields_by (coef_form Pcpsp n destinations resources) c) refl (omega arith) (
+      (within.0, omega (arith, few)),
+      ((within.1, omega (arith, many)), ((within.2, omega (arith, small)), (kept, tt))),
+    )
 coefs_line Cpit n destinations resources k c few many small within kept single =
-    let b = below_written n c.b within.0 (omega (arith, few)) in
-    let r = below_written resources c.r within.2 (omega (arith, small)) in
-    let v = decimal_written c.v kept in
-    plain_line (cpit_coef_line k c) (λ fields. EncodesCoef Cpit n destinations resources fields c) (omega arith)
-    (below_field _ _ _ b, (below_field _ _ _ r, (number_field 6 _ _ v, tt))) (refl, b, omega (arith, within.1, single), r, v)
+    let back = line_back (cpit_coef_line k c) (fields_by (coef_form Cpit n destinations resources) c) refl (omega arith)
+    ((within.0, omega (arith, few)), ((within.2, omega (arith, small)), (kept, tt))) in
+    (back.0, (back.1, omega (arith, within.1, single)))
 
 -- a limit
-letter : (c : ℕ) → list_all is_plain (c ∷ []) ≡ true → IsField (c ∷ [])
-letter c h = record { some = omega arith; bytes = h }
+abbrev limit_of : (resource period : ℕ) → Bound → Limit
+limit_of resource period bound = record { resource = resource; period = period; bound = bound }
 
-bound_written : (k resource period : ℕ) (bound : Bound) → HasDecimals bound
-    → EncodesBound (limit_line k (record { resource = resource; period = period; bound = bound })) bound × EachField (bound_fields bound)
-bound_written k resource period (AtMost v) kept =
-    let h = decimal_written v kept in ((refl, refl, h), (letter 76 refl, (number_field 6 _ _ h, tt)))
-bound_written k resource period (AtLeast v) kept =
-    let h = decimal_written v kept in ((refl, refl, h), (letter 71 refl, (number_field 6 _ _ h, tt)))
-bound_written k resource period (Between v w) kept =
-    let h = decimal_written v kept.0 in
-    let g = decimal_written w kept.1 in
-    ((refl, refl, h, g), (letter 73 refl, (number_field 6 _ _ h, (number_field 6 _ _ g, tt))))
-
-limits_line : (resources periods k : ℕ) (l : Limit) → resources ≤ 8 → periods ≤ 100 → l.resource < resources → l.period < periods
-    → HasDecimals l.bound
-    → IsLine (line_of (limit_line k l)) × EncodesLimit resources periods (fields_of (line_of (limit_line k l))) l
-limits_line resources periods k l small short low_r low_t kept =
-    let r = below_written resources l.resource low_r (omega (arith, small)) in
-    let t = below_written periods l.period low_t (omega (arith, short)) in
-    let bound = bound_written k l.resource l.period l.bound kept in
-    plain_line (limit_line k l) (λ fields. EncodesLimit resources periods fields l) (omega arith)
-    (below_field _ _ _ r, (below_field _ _ _ t, bound.1)) (r, t, bound.0)
+limits_line : (resources periods k resource period : ℕ) (bound : Bound) → resources ≤ 8 → periods ≤ 100 → resource < resources → period < periods
+    → HasDecimals bound
+    → IsLine (line_of (limit_line k (limit_of resource period bound)))
+    × EncodesLimit resources periods (fields_of (line_of (limit_line k (limit_of resource period bound)))) (limit_of resource period bound)
+limits_line resources periods k resource period (AtMost v) small short low_r low_t kept =
+    line_back (limit_line k (limit_of resource period (AtMost v))) (fields_by (limit_form resources periods) (limit_of resource period (AtMost v)))
+    refl (omega arith) ((low_r, omega (arith, small)), ((low_t, omega (arith, short)), (tt, (kept, tt))))
+limits_line resources periods k resource period (AtLeast v) small short low_r low_t kept =
+    line_back (limit_line k (limit_of resource period (AtLeast v))) (fields_by (limit_form resources periods) (limit_of resource period (AtLeast v)))
+    refl (omega arith) ((low_r, omega (arith, small)), ((low_t, omega (arith, short)), (tt, (kept, tt))))
+limits_line resources periods k resource period (Between v w) small short low_r low_t kept =
+    line_back (limit_line k (limit_of resource period (Between v w))) (fields_by (limit_form resources periods) (limit_of resource period (Between v w)))
+    refl (omega arith) ((low_r, omega (arith, small)), ((low_t, omega (arith, short)), (tt, (kept.0, (kept.1, tt)))))
 
 -- what a model file states can be written: its numbers are decimals, and are in range and order
 pub record IsWritable (p : Problem) (n : ℕ) (m : StatedModel) : Type 0 where
@@ -121,7 +102,7 @@ module _ (p : Problem) (n : ℕ) (m : StatedModel) (is : IsWritable p n m) where
       let periods = m.header.periods in
       let range = item_there m.limits done l rest whole (λ l. (l.resource < resources) × (l.period < periods) × (is_turned l.bound ≡ false))
       is.model.limits.in_range in
-      let w = limits_line resources periods (length done) l is.model.horizon.at_most_8_resources is.model.horizon.periods_1_to_100.1 range.0 range.1
+      let w = limits_line resources periods (length done) l.resource l.period l.bound is.model.horizon.at_most_8_resources is.model.horizon.periods_1_to_100.1 range.0 range.1
       (item_there m.limits done l rest whole (λ l. HasDecimals l.bound) is.limits) in
       (w.0, (w.1, range.2))
 

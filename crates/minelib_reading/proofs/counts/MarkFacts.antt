@@ -12,7 +12,7 @@ use Rattle.std.proofs.lemmas.Grind.{get_or-set_at}
 use Rattle.std.proofs.Math.Bool.{or-true, or-false}
 use Rattle.minelib_reading.specs.inner.Marks.{AreMarked, rise_above}
 use Rattle.minelib_reading.proofs.lines.PrecTests.{differ_again, others_differ, pairs_differ, stands_not}
-use Rattle.minelib_reading.specs.PrecText.{stands_in, all_differ}
+use Rattle.minelib_reading.specs.LineForms.{all_differ, stands_in}
 
 one_more : (ids : List ℕ) (id place : ℕ) → stands_in (ids ++ id ∷ []) place ≡ (stands_in ids place || ((id == place) || false))
 one_more ids id place = list_any-append (λ other. other == place) ids (id ∷ [])

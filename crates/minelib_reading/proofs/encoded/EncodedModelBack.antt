@@ -2,13 +2,12 @@
 use Rattle.std.specs.Prelude.{AllPairs, List, Ok, is_some, not, pos, unwrap_or, ℕ, ℤ, ◌≢◌}
 use Rattle.std.proofs.Common.{Some, [], ap, arith, false, inl, inr, length, refl, subst, suc, sym, true, ◌++◌, ◌+◌, ◌∙◌, ◌∷◌, ◌≡◌}
 use Rattle.std.proofs.lemmas.Bool.{cases_Bool, eq-eqb}
-use Rattle.std.specs.List.{Contains}
+use Rattle.std.specs.List.{Contains, list_any}
 use Rattle.plan_parts.specs.PlanInvariant.{is_turned, stands_before}
 use Rattle.plan_parts.specs.declared.limit.Limit.{Limit}
 use Rattle.mine_instance.specs.Order.{coef_before}
 use Rattle.mine_instance.specs.declared.coefs.coef.Coef.{Coef}
 use Rattle.text_lines.proofs.LinesRead.{line_then, lines_then}
-use Rattle.text_lines.proofs.PlainText.{EachField}
 use Rattle.text_lines.specs.Reading.{read_lines}
 use Rattle.text_lines.specs.TextLines.{Line, fields_of}
 use Rattle.minelib_lines.specs.HeaderKeys.{has_key, key_word}
@@ -21,7 +20,8 @@ use Rattle.minelib_reading.proofs.keys.HeaderFacts.{all_given, contains_cases, e
 use Rattle.minelib_reading.proofs.keys.KeyLines.{cut_line, header_found, header_plain, section_found, section_plain}
 use Rattle.minelib_reading.proofs.keys.KeyNumbers.{from_zero, number_back, reported}
 use Rattle.minelib_reading.proofs.lines.ItemLines.{items_state}
-use Rattle.minelib_reading.proofs.lines.LineFields.{coef_fields, limit_fields, line_keyless, values_fields}
+use Rattle.minelib_reading.proofs.lines.FormFacts.{line_keyless}
+use Rattle.minelib_reading.proofs.lines.LineFacts.{coef_fields_keyless}
 use Rattle.minelib_reading.proofs.models.Drafts.{draft, heading}
 use Rattle.minelib_reading.proofs.models.ModelSteps.{coef_back, limit_back, values_back}
 use Rattle.minelib_reading.proofs.models.Places.{after_last}
@@ -29,7 +29,7 @@ use Rattle.minelib_reading.proofs.models.ValidModel.{in_both, key_encoded}
 use Rattle.minelib_reading.proofs.encoded.EncodedModelRead.{StateModel}
 use Rattle.minelib_reading.specs.HeaderNumbers.{count_in, is_complete, is_given, number_of, with_key}
 use Rattle.minelib_reading.specs.ModelDraft.{ModelDraftView, blank_header, blank_model, is_after, is_heading, is_next, is_ready, last_of, name_with}
-use Rattle.minelib_reading.specs.ModelKeys.{section_text}
+use Rattle.minelib_reading.specs.ModelKeys.{is_colon, section_text}
 use Rattle.minelib_reading.specs.ModelText.{item_stated, key_stated, line_stated, section_stated}
 use Rattle.minelib_reading.specs.StatedModel.{StatedModel, header_stated, stated_by}
 use Rattle.minelib_reading.specs.declared.model.key.Header.{Header}
@@ -65,17 +65,17 @@ section_states d section line l follows ready =
     rw (c.colon, c.key_is, section_found d.problem d.section section follows, c.fields_are, follows, ready) refl
 
 -- the line of an item, which has no colon
-item_states : (d next : ModelDraftView) (line : List ℕ) → EachField (fields_of line) → item_stated d d.section (fields_of line) ≡ Ok next
+item_states : (d next : ModelDraftView) (line : List ℕ) → list_any is_colon line ≡ false → item_stated d d.section (fields_of line) ≡ Ok next
     → line_stated d line ≡ Ok next
 unfolding line_stated
-item_states d next line each states = rw (line_keyless line each) states
+item_states d next line none states = rw none states
 
 pub values_states : (d : ModelDraftView) (vs : List ℤ) (line : List ℕ)
     → EncodesValues d.blocks (count_in d.header key.Destinations) (length d.values) (fields_of line) vs
     → line_stated (record d { section = Objective }) line ≡ Ok (record d { section = Objective; values = d.values ++ vs ∷ [] })
 values_states d vs line encoded =
     let at : ModelDraftView = record d { section = Objective } in
-    item_states at _ line (values_fields d.blocks (count_in d.header key.Destinations) (length d.values) (fields_of line) vs encoded)
+    item_states at _ line (line_keyless line _ encoded.0)
     (values_back at (fields_of line) _ (vs, refl, encoded))
 
 coef_states : (d : ModelDraftView) (c : Coef) (line : List ℕ)
@@ -84,7 +84,7 @@ coef_states : (d : ModelDraftView) (c : Coef) (line : List ℕ)
     → line_stated (record d { section = Coefs }) line ≡ Ok (record d { section = Coefs; coefs = d.coefs ++ c ∷ [] })
 coef_states d c line encoded following =
     let at : ModelDraftView = record d { section = Coefs } in
-    item_states at _ line (coef_fields d.problem d.blocks (count_in d.header key.Destinations) (count_in d.header key.Resources) (fields_of line) c encoded)
+    item_states at _ line (coef_fields_keyless d.problem d.blocks (count_in d.header key.Destinations) (count_in d.header key.Resources) line c encoded)
     (coef_back at (fields_of line) _ (c, refl, encoded, following))
 
 limit_states : (d : ModelDraftView) (l : Limit) (line : List ℕ)
@@ -93,7 +93,7 @@ limit_states : (d : ModelDraftView) (l : Limit) (line : List ℕ)
     → line_stated (record d { section = Limits }) line ≡ Ok (record d { section = Limits; limits = d.limits ++ l ∷ [] })
 limit_states d l line encoded following =
     let at : ModelDraftView = record d { section = Limits } in
-    item_states at _ line (limit_fields (count_in d.header key.Resources) (count_in d.header key.Periods) (fields_of line) l encoded.0)
+    item_states at _ line (line_keyless line _ encoded.0)
     (limit_back at (fields_of line) _ (l, refl, encoded.0, encoded.1, following))
 
 -- the NAME is the value of its key

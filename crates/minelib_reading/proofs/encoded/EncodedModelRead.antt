@@ -18,6 +18,7 @@ use Rattle.minelib_lines.specs.declared.header_key.HeaderKey.TheVariants as key
 use Rattle.minelib_lines.specs.declared.problem.Problem.{Problem}
 use Rattle.minelib_reading.proofs.keys.HeaderLines.{Heads, WholeHeader, heads_more, heads_none, heads_whole}
 use Rattle.minelib_reading.proofs.keys.KeyLines.{next_by}
+use Rattle.minelib_reading.proofs.lines.FormFacts.{fields_fit}
 use Rattle.minelib_reading.proofs.lines.ItemLines.{line_more}
 use Rattle.minelib_reading.proofs.models.LineCases.{each_line}
 use Rattle.minelib_reading.proofs.models.ModelSteps.{coef_step, key_step, limit_step, section_step, values_step}
@@ -201,7 +202,7 @@ stepped problem n done d next line states was =
     valued : d.section ≡ Objective → item_stated d Objective (fields_of line.text) ≡ Ok next → Now problem n next (done ++ line ∷ [])
     valued here states =
         let s = values_step d (fields_of line.text) next states in
-        let place = s.2.id.1 in
+        let place = (fields_fit (fields_of line.text) _ s.2.0).0 in
         within _ Objective s.1 here here refl refl (λ before. (
           part_more (WholeHeader d.problem d.blocks d.name d.header) Objective (Values d) (AreFew d) d.values done line s.0 s.2
               (omega (arith, place, length-append d.values (s.0 ∷ []))) before.0,

@@ -1,9 +1,13 @@
 -- The kind of a line's fault is the kind of the first requirement that it violates.
-use Rattle.std.specs.Prelude.{Bool, Err, List, Ok, Result, if◌then◌else◌, nat_lt, not, pos, unsigned_abs, ℕ, ℤ, ◌*◌, ◌-ℤ◌, ◌/◌, ◌==◌, ◌^◌, ◌||◌, ◌≢◌}
-use Rattle.std.proofs.Common.{All, [], ap, arith, drop, false, length, refl, true, ◌<◌, ◌∷◌, ◌≡◌}
-use Rattle.std.proofs.lemmas.Bool.{eq-eqb, eqb-false, eqb-true, ne_eqb, not-false, not-true}
-use Rattle.std.proofs.lemmas.Bool.Decides.{nat_tests}
+use Rattle.std.specs.Prelude.{Bool, Err, List, Ok, Result, if◌then◌else◌, not, pos, unsigned_abs, ℕ, ℤ, ◌*◌, ◌-ℤ◌, ◌/◌, ◌==◌, ◌^◌, ◌||◌, ◌≢◌}
+use Rattle.std.proofs.Common.{All, [], ap, subst, sym, ◌∙◌, arith, drop, false, length, refl, true, ◌<◌, ◌∷◌, ◌≡◌}
+use Rattle.std.proofs.lemmas.Bool.{eq-eqb, eqb-false, eqb-true, le-ltb, ne_eqb, not-false, not-true}
 use Rattle.std.proofs.lemmas.List.{nil_from_length}
+use Rattle.std.proofs.lemmas.List.Elements.{All-cons, All-nil}
+use Rattle.std.specs.List.{AllZip}
+use Rattle.pit_units.specs.EncodedNumbers.{EncodesBelow}
+use Rattle.text_lines.proofs.LaterFields.{all_each}
+use Rattle.text_lines.specs.FieldValues.{all_by, first_by}
 use Rattle.pit_units.proofs.Fails.{Fails, fails_after, fails_here, fails_then, other_fault}
 use Rattle.pit_units.specs.Decimal.{decimal_within}
 use Rattle.pit_units.specs.Steps.{◌>>=◌, each_of}
@@ -12,16 +16,23 @@ use Rattle.pit_units.specs.declared.fault.DecFault.TheVariants as dec
 use Rattle.mine_instance.specs.Valid.{ArePredsOf}
 use Rattle.pit_units.proofs.Exactly.{each}
 use Rattle.text_lines.proofs.FieldFacts.{below}
-use Rattle.text_lines.specs.StatedFields.{below_in, field_at, number_in, number_in_field}
+use Rattle.text_lines.specs.StatedFields.{below_in, number_in, number_in_field}
 use Rattle.text_lines.specs.declared.text_fault.TextKind.{TextKind}
 use Rattle.text_lines.specs.declared.text_fault.TextKind.TheVariants.{Count, Fields, Key, Missing, Number, Order, Range, TooFine, Twice}
-use Rattle.minelib_reading.proofs.lines.LineFacts.{all_below}
+use Rattle.minelib_reading.proofs.lines.FormFacts.{first_step}
 use Rattle.minelib_reading.proofs.lines.PrecTests.{passed_preds, preds_pass}
 use Rattle.minelib_reading.specs.ModelDraft.{ModelDraftView, is_next, is_ready}
 use Rattle.minelib_reading.specs.ModelText.{section_stated}
-use Rattle.minelib_reading.specs.PrecText.{all_differ, preds_stated, stands_in}
+use Rattle.minelib_reading.specs.PrecText.{preds_stated}
+use Rattle.minelib_reading.specs.LineFields.{item_in}
+use Rattle.minelib_reading.specs.LineForms.{all_differ, preds_form, preds_with, stands_in}
 use Rattle.minelib_reading.specs.declared.model.key.Section.{Section}
 use Rattle.minelib_reading.specs.encoded.EncodedItems.{NumbersThen}
+
+below_each : (n : ℕ) (fields : List (List ℕ)) (ids : List ℕ) → AllZip (EncodesBelow n) fields ids → All (λ id. id < n) ids
+below_each n [] [] h = All-nil (λ id. id < n)
+below_each n (field ∷ fields) (id ∷ ids) h = All-cons (λ id. id < n) id ids h.0.1 (below_each n fields ids h.1)
+below_each n fields ids h = absurd h
 
 -- a number has only a number's faults
 module _ (kind : TextKind) (no_number : Number ≢ kind) (no_fine : TooFine ≢ kind) (no_range : Range ≢ kind) where
@@ -52,22 +63,41 @@ module _ (kind : TextKind) (no_number : Number ≢ kind) (no_fine : TooFine ≢ 
       by (Err other) never rest later e = never (ap Err (other_fault other kind e))
 
   -- the numbers of a line of predecessors, and then the fault
-  numbers_then : (n : ℕ) (fields : List (List ℕ)) {next : ℕ → ℕ → List ℕ → Result (List ℕ) TextKind} {Q : ℕ → ℕ → List ℕ → Type 0} → Fields ≢ kind
-      → ((id k : ℕ) (ids : List ℕ) → Fails (next id k ids) kind (Q id k ids))
-      → Fails (if nat_lt (length fields) 2 then Err Fields else (below_in n (field_at fields 0) >>= λ id. below_in n (field_at fields 1) >>= λ k.
-      each_of (below_in n) (drop 2 fields) >>= λ ids. next id k ids)) kind (NumbersThen n fields Q)
-  numbers_then n fields no_fields following =
-      fails_after Fields no_fields (λ e. grind (arith, nat_tests, e)) (λ h. grind (arith, nat_tests, h)) (
-      fails_then kind (below n (field_at fields 0)) (below_never n (field_at fields 0)) (λ id.
-      fails_then kind (below n (field_at fields 1)) (below_never n (field_at fields 1)) (λ k.
-      fails_then kind (each (below n) (drop 2 fields)) (each_never n (drop 2 fields)) (λ ids.
-      following id k ids))))
+  numbers_then : (n own : ℕ) (fields : List (List ℕ)) {Q : ℕ → ℕ → List ℕ → Type 0} → Fields ≢ kind
+      → ((id k : ℕ) (ids : List ℕ) → Fails (preds_with own id k ids) kind (Q id k ids)) → Fails (preds_stated n own fields) kind (NumbersThen n fields Q)
+  unfolding preds_stated
+  numbers_then n own [] no_fields following =
+      record { reported = λ e. absurd (no_fields (other_fault Fields kind e)); back = λ h. absurd (omega (arith, h.0)) }
+  numbers_then n own (id ∷ []) no_fields following =
+      record { reported = λ e. absurd (no_fields (other_fault Fields kind e)); back = λ h. absurd (omega (arith, h.0)) }
+  numbers_then n own (first ∷ second ∷ others) {Q} no_fields following =
+      fails_after Fields no_fields (λ e. omega arith) (λ h. le-ltb _ 2 h)
+      (subst (λ r. Fails r kind Numbers) same (
+      fails_then kind (below n first) (below_never n first) (λ id.
+      fails_then kind (below n second) (below_never n second) (λ k.
+      fails_then kind (each (below n) others) (each_never n others) (λ ids.
+      following id k ids)))))
+    where
+      Numbers : Type 0
+      Numbers = (id : ℕ) × EncodesBelow n first id × ((k : ℕ) × EncodesBelow n second k × ((ids : List ℕ) × AllZip (EncodesBelow n) others ids × Q id k ids))
+
+      from_second : (id : ℕ)
+          → (below_in n second >>= λ k. each_of (below_in n) others >>= preds_with own id k)
+          ≡ (first_by (below_in n) (second ∷ others) >>= λ k. all_by (below_in n) [] k.1 >>= preds_with own id k.0)
+      from_second id =
+          (λ i. below_in n second >>= λ k. sym (all_each (below_in n) [] others (preds_with own id k)) i)
+          ∙ first_step (below_in n second) others (λ k. all_by (below_in n) [] k.1 >>= preds_with own id k.0)
+
+      same : (below_in n first >>= λ id. below_in n second >>= λ k. each_of (below_in n) others >>= preds_with own id k)
+          ≡ item_in (preds_form n own) (first ∷ second ∷ others)
+      same =
+          (λ i. below_in n first >>= λ id. from_second id i)
+          ∙ first_step (below_in n first) (second ∷ others) (λ id. first_by (below_in n) id.1 >>= λ k. all_by (below_in n) [] k.1 >>= preds_with own id.0 k.0)
 
 pub order_fails : (n own : ℕ) (fields : List (List ℕ))
     → Fails (preds_stated n own fields) Order (NumbersThen n fields (λ id k ids. id ≢ own))
-unfolding preds_stated
 order_fails n own fields =
-    numbers_then Order (λ e. absurd cc) (λ e. absurd cc) (λ e. absurd cc) n fields (λ e. absurd cc) (λ id k ids.
+    numbers_then Order (λ e. absurd cc) (λ e. absurd cc) (λ e. absurd cc) n own fields (λ e. absurd cc) (λ id k ids.
     fails_here _ Order (λ e. eqb-false id own (not-true (id == own) e)) (λ differs. rw (ne_eqb id own differs) refl)
     (never (k == length ids) (stands_in ids own || not (all_differ ids)) ids))
   where
@@ -79,9 +109,8 @@ order_fails n own fields =
 
 pub count_fails : (n own : ℕ) (fields : List (List ℕ))
     → Fails (preds_stated n own fields) Count (NumbersThen n fields (λ id k ids. (id ≡ own) × (k ≢ length ids)))
-unfolding preds_stated
 count_fails n own fields =
-    numbers_then Count (λ e. absurd cc) (λ e. absurd cc) (λ e. absurd cc) n fields (λ e. absurd cc) (λ id k ids.
+    numbers_then Count (λ e. absurd cc) (λ e. absurd cc) (λ e. absurd cc) n own fields (λ e. absurd cc) (λ id k ids.
     fails_after Order (λ e. absurd cc) (λ e. eqb-true id own (not-false (id == own) e)) (λ is. rw (eq-eqb id own is) refl)
     (fails_here _ Count (λ e. eqb-false k (length ids) (not-true (k == length ids) e)) (λ differs. rw (ne_eqb k (length ids) differs) refl)
     (never (stands_in ids own || not (all_differ ids)) ids)))
@@ -93,7 +122,6 @@ count_fails n own fields =
 pub twice_fails : (n own : ℕ) (fields : List (List ℕ))
     → Fails (preds_stated n own fields) Twice
     (NumbersThen n fields (λ id k ids. (id ≡ own) × ((k ≡ length ids) × ¬ (ArePredsOf own n ids))))
-unfolding preds_stated
 twice_fails n own fields = record { reported = λ e. to (steps.reported e); back = λ h. steps.back (from h) }
   where
     Tested : Type 0
@@ -104,7 +132,7 @@ twice_fails n own fields = record { reported = λ e. to (steps.reported e); back
 
     steps : Fails (preds_stated n own fields) Twice Tested
     steps =
-        numbers_then Twice (λ e. absurd cc) (λ e. absurd cc) (λ e. absurd cc) n fields (λ e. absurd cc) (λ id k ids.
+        numbers_then Twice (λ e. absurd cc) (λ e. absurd cc) (λ e. absurd cc) n own fields (λ e. absurd cc) (λ id k ids.
         fails_after Order (λ e. absurd cc) (λ e. eqb-true id own (not-false (id == own) e)) (λ is. rw (eq-eqb id own is) refl)
         (fails_after Count (λ e. absurd cc) (λ e. eqb-true k (length ids) (not-false (k == length ids) e)) (λ is. rw (eq-eqb k (length ids) is) refl)
         (fails_here (Ok ids) Twice (λ e. e) (λ e. e) (λ e. absurd cc))))
@@ -126,7 +154,7 @@ twice_fails n own fields = record { reported = λ e. to (steps.reported e); back
 
     from : Twofold → Tested
     from (two, (id, of_id, (k, of_k, (ids, of_ids, (own_is, (counts, fails)))))) =
-        (two, (id, of_id, (k, of_k, (ids, of_ids, (own_is, (counts, some_fails ids (all_below n (drop 2 fields) ids of_ids) fails))))))
+        (two, (id, of_id, (k, of_k, (ids, of_ids, (own_is, (counts, some_fails ids (below_each n (drop 2 fields) ids of_ids) fails))))))
 
 -- the line of a section's key
 module _ (d : ModelDraftView) (section : Section) (fields : List (List ℕ)) where

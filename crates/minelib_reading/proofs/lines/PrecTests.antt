@@ -7,7 +7,7 @@ use Rattle.std.proofs.lemmas.List.Elements.{All-cons, All-nil}
 use Rattle.std.proofs.lemmas.List.Folds.{list_any_none}
 use Rattle.std.proofs.lemmas.List.Kept.{AllPairs-cons}
 use Rattle.mine_instance.specs.Valid.{ArePredsOf}
-use Rattle.minelib_reading.specs.PrecText.{stands_in, all_differ}
+use Rattle.minelib_reading.specs.LineForms.{all_differ, stands_in}
 
 pub stands_not : (own : ℕ) (ids : List ℕ) → All (λ id. id ≢ own) ids → stands_in ids own ≡ false
 stands_not own ids h = list_any_none (λ id. id == own) ids (λ k d within. ne_eqb _ own (h k d within))

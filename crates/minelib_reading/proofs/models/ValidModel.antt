@@ -1,10 +1,7 @@
 -- The content that lines encode is valid for an instance and for a CPIT.
-use Rattle.std.specs.Prelude.{List, ℕ, ℤ}
-use Rattle.std.proofs.Common.{[], ap, arith, drop, false, length, refl, subst, suc, true, ◌<◌, ◌∷◌, ◌≡◌, ◌≤◌}
-use Rattle.std.proofs.lemmas.List.{length-drop}
+use Rattle.std.specs.Prelude.{List, ℕ}
+use Rattle.std.proofs.Common.{arith, false, length, refl, subst, true, ◌<◌, ◌≡◌, ◌≤◌}
 use Rattle.std.proofs.lemmas.List.Elements.{All-contains}
-use Rattle.std.specs.List.{AllZip}
-use Rattle.pit_units.specs.StandsFor.{StandsFor}
 use Rattle.plan_parts.specs.Name.{is_name}
 use Rattle.plan_parts.specs.PlanInvariant.{is_turned}
 use Rattle.plan_parts.specs.declared.ranges.TheConstants.{MAX_DESTINATIONS}
@@ -17,6 +14,7 @@ use Rattle.minelib_lines.specs.declared.header_key.HeaderKey.{HeaderKey}
 use Rattle.minelib_lines.specs.declared.header_key.HeaderKey.TheVariants as key
 use Rattle.minelib_lines.specs.declared.problem.Problem.{Problem}
 use Rattle.minelib_lines.specs.declared.problem.Problem.TheVariants.{Cpit, Pcpsp}
+use Rattle.minelib_reading.proofs.lines.FormFacts.{fields_fit}
 use Rattle.minelib_reading.proofs.lines.ItemLines.{each_item}
 use Rattle.minelib_reading.specs.StatedModel.{StatedModel}
 use Rattle.minelib_reading.specs.encoded.EncodedItems.{EncodesCoef, EncodesLimit, EncodesValues}
@@ -52,20 +50,11 @@ destinations_low : (problem : Problem) (n : ℕ) (lines : List Line) (h : Stated
 destinations_low Pcpsp n lines h are single = let s = (key_encoded Pcpsp n lines h are key.Destinations refl).1 in (s.1, s.2)
 destinations_low Cpit n lines h are single = (omega arith, omega arith)
 
-values_width : (fields : List (List ℕ)) (values : List ℤ) → AllZip (StandsFor 6) fields values → length values ≡ length fields
-values_width [] [] h = refl
-values_width (field ∷ fields) (v ∷ values) h = ap suc (values_width fields values h.1)
-values_width fields values h = absurd h
-
-row_width : (n destinations block : ℕ) (fields : List (List ℕ)) (values : List ℤ) → EncodesValues n destinations block fields values
-    → length values ≡ destinations
-row_width n destinations block fields values s =
-    let width = values_width (drop 1 fields) values s.each in omega (arith, width, s.as_many, length-drop 1 fields)
-
 coef_low : (problem : Problem) (n destinations resources : ℕ) (fields : List (List ℕ)) (c : Coef) → IsSingle problem destinations
     → EncodesCoef problem n destinations resources fields c → (c.b < n) × (c.d < destinations) × (c.r < resources)
-coef_low Pcpsp n destinations resources fields c single s = (s.1.1, s.2.1, s.3.1)
-coef_low Cpit n destinations resources fields c single s = (s.1.1, omega (arith, single, s.2), s.3.1)
+coef_low Pcpsp n destinations resources fields c single s = let fit = fields_fit fields _ s in (fit.0, fit.1.0, fit.1.1.0)
+coef_low Cpit n destinations resources fields c single s =
+    let fit = fields_fit fields _ s.0 in (fit.0, omega (arith, single, s.1), fit.1.0)
 
 pub encoded_model : (problem : Problem) (n : ℕ) (lines : List Line) (m : StatedModel) → AreModelLines problem n lines m
     → IsModel problem n m
@@ -87,7 +76,7 @@ encoded_model problem n lines m are =
       destinations = record {
         from_1_to_8 = destinations_low problem n are.heading h are.encode_header are.destinations;
         one_each = each_item (λ block line vs. EncodesValues n h.destinations block (fields_of line) vs) (λ _ vs. length vs ≡ h.destinations)
-            (λ block line vs s. row_width n h.destinations block (fields_of line) vs s) 0 are.values m.values are.encode_values;
+            (λ block line vs s. s.1) 0 are.values m.values are.encode_values;
       };
       single = are.destinations;
       coefs = record {
@@ -99,7 +88,7 @@ encoded_model problem n lines m are =
       limits = record {
         in_range = each_item (λ _ line l. EncodesLimit h.resources h.periods (fields_of line) l × (is_turned l.bound ≡ false))
             (λ _ l. (l.resource < h.resources) × (l.period < h.periods) × (is_turned l.bound ≡ false))
-            (λ _ line l s. (s.0.0.1, s.0.1.1, s.1)) 0 are.limits m.limits are.encode_limits;
+            (λ _ line l s. let fit = fields_fit (fields_of line) _ s.0 in (fit.0, fit.1.0, s.1)) 0 are.limits m.limits are.encode_limits;
         rising = are.rising_limits;
       };
     }

@@ -10,6 +10,7 @@ use Rattle.mine_instance.specs.cpit.CpitInvariant.{IsCpit}
 use Rattle.text_lines.specs.TextLines.{fields_of, lines_in}
 use Rattle.minelib_lines.specs.declared.problem.Problem.{Problem}
 use Rattle.minelib_lines.specs.declared.problem.Problem.TheVariants as problem
+use Rattle.minelib_reading.proofs.lines.FormFacts.{fields_fit}
 use Rattle.minelib_reading.proofs.lines.ItemLines.{each_item}
 use Rattle.minelib_reading.proofs.models.ValidModel.{IsModel, encoded_model}
 use Rattle.minelib_reading.proofs.encoded.EncodedDenotes.{cpit_encoded, denoted_encoded, model_encoded}
@@ -30,7 +31,7 @@ model_is_valid problem n text d e = encoded_model problem n (lines_in text) (sta
 few_encoded : (text : List ℕ) (blocks : List Block) → EncodeBlocks text blocks → length blocks ≤ 64000000
 few_encoded text [] are = omega arith
 few_encoded text (b ∷ blocks) are =
-    let last = each_item (λ id line b. EncodesBlock id (fields_of line) b) (λ id _. id < 64000000) (λ id line b s. s.id.1)
+    let last = each_item (λ id line b. EncodesBlock id (fields_of line) b) (λ id _. id < 64000000) (λ id line b s. (fields_fit (fields_of line) _ s).0)
     0 (lines_in text) (b ∷ blocks) are (length blocks) b (omega arith) in
     omega (arith, last)
 
@@ -48,7 +49,7 @@ read_valid blocks prec pcpsp i e =
       preds = λ id within.
           let place : 0 + id ≡ id = omega arith in
           subst (λ own. ArePredsOf own n (slice_index_or i.preds id [])) place (each_item (λ own line ids. EncodesPreds n own (fields_of line) ids)
-          (λ own ids. ArePredsOf own n ids) (λ own line ids s. s.are) 0 (lines_in prec) i.preds are.of_preds.1 id [] within);
+          (λ own ids. ArePredsOf own n ids) (λ own line ids s. s.1) 0 (lines_in prec) i.preds are.of_preds.1 id [] within);
       horizon = model.horizon;
       destinations = model.destinations;
       coefs = model.coefs;

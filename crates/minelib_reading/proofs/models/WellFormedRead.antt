@@ -1,11 +1,8 @@
 -- Instances and CPITs that are read have a NAME, and numbers in the range of decimals.
-use Rattle.std.specs.Prelude.{List, Ok, ℕ, ℤ}
-use Rattle.std.proofs.Common.{All, [], arith, drop, false, length, refl, ◌∷◌, ◌≡◌}
+use Rattle.std.specs.Prelude.{List, Ok, ℕ}
+use Rattle.std.proofs.Common.{All, arith, false, length, refl, ◌≡◌}
 use Rattle.std.proofs.lemmas.List.{get_or-map, length-map}
-use Rattle.std.proofs.lemmas.List.Elements.{All-cons, All-nil}
-use Rattle.std.specs.List.{AllZip}
 use Rattle.pit_units.specs.DecimalRange.{IsInDecimalRange}
-use Rattle.pit_units.specs.StandsFor.{StandsFor}
 use Rattle.plan_parts.specs.PlanInvariant.{is_turned}
 use Rattle.plan_parts.specs.declared.limit.Bound.{Bound}
 use Rattle.plan_parts.specs.declared.limit.Bound.TheVariants.{AtLeast, AtMost, Between}
@@ -16,31 +13,30 @@ use Rattle.mine_instance.specs.declared.coefs.coef.Coef.{Coef}
 use Rattle.text_lines.specs.TextLines.{Line, fields_of, lines_in}
 use Rattle.minelib_lines.specs.declared.problem.Problem.{Problem}
 use Rattle.minelib_lines.specs.declared.problem.Problem.TheVariants.{Cpit, Pcpsp}
+use Rattle.minelib_reading.proofs.lines.FormFacts.{each_fits, fields_fit}
 use Rattle.minelib_reading.proofs.lines.ItemLines.{each_item}
+use Rattle.minelib_reading.specs.LineFields.{Decimal}
 use Rattle.minelib_reading.proofs.models.ValidModel.{encoded_model}
 use Rattle.minelib_reading.proofs.encoded.EncodedDenotes.{cpit_encoded, denoted_encoded}
 use Rattle.minelib_reading.specs.Denotes.{Denotes, DenotesCpit, cpit_denoted, cpit_read}
 use Rattle.minelib_reading.specs.ModelDraft.{ModelDraftView}
 use Rattle.minelib_reading.specs.ModelText.{model_in}
 use Rattle.minelib_reading.specs.StatedModel.{StatedModel, alone, model_of, model_of_cpit}
-use Rattle.minelib_reading.specs.encoded.EncodedItems.{EncodesBound, EncodesCoef, EncodesLimit, EncodesValues}
+use Rattle.minelib_reading.specs.encoded.EncodedItems.{EncodesCoef, EncodesLimit, EncodesValues}
 use Rattle.minelib_reading.specs.encoded.EncodedModel.{AreModelLines}
 
--- the numbers of encoded values, of a coefficient and of a bound are in the range of decimals
-values_in_range : (fields : List (List ℕ)) (values : List ℤ) → AllZip (StandsFor 6) fields values → All IsInDecimalRange values
-values_in_range [] [] h = All-nil IsInDecimalRange
-values_in_range (field ∷ fields) (v ∷ values) h = All-cons IsInDecimalRange v values h.0.in_range (values_in_range fields values h.1)
-values_in_range fields values h = absurd h
-
+-- the numbers of a coefficient and of a bound are in the range of decimals
 coef_in_range : (problem : Problem) (n destinations resources : ℕ) (fields : List (List ℕ)) (c : Coef)
     → EncodesCoef problem n destinations resources fields c → IsInDecimalRange c.v
-coef_in_range Pcpsp n destinations resources fields c s = s.4.in_range
-coef_in_range Cpit n destinations resources fields c s = s.4.in_range
+coef_in_range Pcpsp n destinations resources fields c s = (fields_fit fields _ s).1.1.1.0
+coef_in_range Cpit n destinations resources fields c s = (fields_fit fields _ s.0).1.1.0
 
-bound_in_range : (fields : List (List ℕ)) (bound : Bound) → EncodesBound fields bound → HasDecimals bound
-bound_in_range fields (AtMost v) s = s.2.in_range
-bound_in_range fields (AtLeast v) s = s.2.in_range
-bound_in_range fields (Between v w) s = (s.2.in_range, s.3.in_range)
+bound_in_range : (resources periods resource period : ℕ) (bound : Bound) (fields : List (List ℕ))
+    → EncodesLimit resources periods fields (record { resource = resource; period = period; bound = bound }) → HasDecimals bound
+bound_in_range resources periods resource period (AtMost v) fields s = (fields_fit fields _ s).1.1.1.0
+bound_in_range resources periods resource period (AtLeast v) fields s = (fields_fit fields _ s).1.1.1.0
+bound_in_range resources periods resource period (Between v w) fields s =
+    let fit = fields_fit fields _ s in (fit.1.1.1.0, fit.1.1.1.1.0)
 
 -- the numbers of a model are in the range of decimals
 record HasDecimalNumbers (m : StatedModel) : Type 0 where
@@ -53,11 +49,11 @@ encoded_kept problem n lines m are =
     let h = m.header in
     record {
       values = each_item (λ block line vs. EncodesValues n h.destinations block (fields_of line) vs) (λ _ vs. All IsInDecimalRange vs)
-          (λ block line vs s. values_in_range (drop 1 (fields_of line)) vs s.each) 0 are.values m.values are.encode_values;
+          (λ block line vs s. each_fits Decimal vs (fields_fit (fields_of line) _ s.0).1) 0 are.values m.values are.encode_values;
       coefs = each_item (λ _ line c. EncodesCoef problem n h.destinations h.resources (fields_of line) c) (λ _ c. IsInDecimalRange c.v)
           (λ _ line c s. coef_in_range problem n h.destinations h.resources (fields_of line) c s) 0 are.coefs m.coefs are.encode_coefs;
       limits = each_item (λ _ line l. EncodesLimit h.resources h.periods (fields_of line) l × (is_turned l.bound ≡ false)) (λ _ l. HasDecimals l.bound)
-          (λ _ line l s. bound_in_range (fields_of line) l.bound s.0.2) 0 are.limits m.limits are.encode_limits;
+          (λ _ line l s. bound_in_range h.resources h.periods l.resource l.period l.bound (fields_of line) s.0) 0 are.limits m.limits are.encode_limits;
     }
 
 pub read_well_formed : (blocks prec pcpsp : List ℕ) (i : Instance) → Denotes blocks prec pcpsp i → IsWellFormed i

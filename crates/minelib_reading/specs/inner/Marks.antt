@@ -1,6 +1,6 @@
 -- A table of marks, one for each number.
 use Rattle.std.specs.Prelude.{◌≡◌, ℕ, ◌&&◌, Bool, true, false, List, [], ◌∷◌, nat_lt, slice_index_or, IsTrue}
-use Rattle.minelib_reading.specs.PrecText.{stands_in}
+use Rattle.minelib_reading.specs.LineForms.{stands_in}
 
 -- no place is marked
 abbrev pub AreClear : List Bool → Type 0

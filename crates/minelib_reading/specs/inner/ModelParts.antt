@@ -46,11 +46,6 @@ abbrev pub StatesValue : Result (Bor (List ℕ)) TextKind → Result (List ℕ) 
 StatesValue (Ok value) stated = stated ≡ Ok value.now
 StatesValue (Err kind) stated = stated ≡ Err kind
 
--- what the first field states, and the fields after it
-abbrev pub TakesFirst : {A : Type 0} → Result A TextKind → List (List ℕ) → Result (A × List (List ℕ)) TextKind → Type 0
-TakesFirst (Ok x) following stated = stated ≡ Ok (x, following)
-TakesFirst (Err kind) following stated = stated ≡ Err kind
-
 -- the value is a NAME, if the key requires one
 abbrev pub is_name_for : HeaderKey → List ℕ → Bool
 is_name_for key.Name value = is_name value

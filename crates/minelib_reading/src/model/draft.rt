@@ -19,9 +19,10 @@ ghost use Rattle.plan_parts.specs.declared.ranges.TheConstants.{MAX_BLOCKS};
 
 use crate::kept::KeptItems;
 use crate::model::header::{blank_header, number_of_key};
-use crate::model::items::{coef_of_line, is_limit_after, limit_of_line, values_of_line};
+use crate::model::items::{coef_of_line, values_of_line};
 use crate::model::key::{Header, ModelKey, Section};
 use crate::model::key_lines::{cut_at_colon, is_heading, is_limits, is_next, key_of, only_value};
+use crate::model::limit_lines::{is_limit_after, limit_of_line};
 use crate::taking::TakeItems;
 use mine_instance::blocks::Blocks;
 use mine_instance::coefs::coef::Coefs;
@@ -154,7 +155,7 @@ impl<T: TakeItems> ModelDraft<T> {
             && is_limits(self.section)
     }
 
-    #[tactic(auto, unfolding(crate::specs::ModelText::line_stated), using(crate::proofs::lines::LineFields::values_keyless))]
+    #[tactic(auto, unfolding(crate::specs::ModelText::line_stated), using(crate::proofs::lines::LineFacts::values_keyless))]
     fn admit_values(&mut self, line: &[u8]) -> Result<(), OrMemory<TextKind>>
         requires { self.old.section ≡ Section.Objective }
         ensures { Leaves self.new result (line_stated self.old line.now) }
@@ -171,7 +172,7 @@ impl<T: TakeItems> ModelDraft<T> {
         }
     }
 
-    #[tactic(auto, unfolding(crate::specs::ModelText::line_stated), using(crate::proofs::lines::LineFields::coef_keyless))]
+    #[tactic(auto, unfolding(crate::specs::ModelText::line_stated), using(crate::proofs::lines::LineFacts::coef_keyless))]
     fn admit_coef(&mut self, line: &[u8]) -> Result<(), OrMemory<TextKind>>
         requires { self.old.section ≡ Section.Coefs }
         ensures { Leaves self.new result (line_stated self.old line.now) }
@@ -190,7 +191,7 @@ impl<T: TakeItems> ModelDraft<T> {
         }
     }
 
-    #[tactic(auto, unfolding(crate::specs::ModelText::line_stated), using(crate::proofs::lines::LineFields::limit_keyless))]
+    #[tactic(auto, unfolding(crate::specs::ModelText::line_stated), using(crate::proofs::lines::LineFacts::limit_keyless))]
     fn admit_limit(&mut self, line: &[u8]) -> Result<(), OrMemory<TextKind>>
         requires { self.old.section ≡ Section.Limits }
         ensures { Leaves self.new result (line_stated self.old line.now) }

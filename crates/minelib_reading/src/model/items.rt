@@ -1,29 +1,24 @@
-//! The lines of a model file's sections.
+//! The lines of values and of coefficients in a model file.
 
-ghost use Rattle.std.specs.Prelude.{◌≡◌, ◌≤◌, ◌<◌, ◌+◌, ◌∷◌, [], length, drop, slice_index_or, IfOk, OnOk};
-ghost use Rattle.plan_parts.specs.PlanInvariant.{stands_before};
+ghost use Rattle.std.specs.Prelude.{◌≡◌, ◌≤◌, ◌<◌, ◌+◌, [], length, IfOk, OnOk};
 ghost use Rattle.mine_instance.specs.Order.{coef_before};
-ghost use Rattle.text_lines.specs.FieldValues.{Takes, all_by, first_by};
+ghost use Rattle.text_lines.specs.FieldValues.{Takes, all_by};
 ghost use Rattle.text_lines.specs.StatedFields.{decimal_in};
 ghost use Rattle.minelib_reading.specs.ModelDraft.{is_after, last_of};
-ghost use Rattle.minelib_reading.specs.ModelText.{coef_stated, limit_stated, values_stated};
-ghost use Rattle.minelib_reading.specs.inner.ModelParts.{TakesFirst};
+ghost use Rattle.minelib_reading.specs.LineFields.{item_in};
+ghost use Rattle.minelib_reading.specs.LineForms.{coef_form};
+ghost use Rattle.minelib_reading.specs.ModelText.{coef_stated, coef_width, values_stated};
 ghost use Rattle.text_lines.specs.Reading.{Leaves};
 ghost use Rattle.text_lines.specs.TextLines.{fields_of};
 ghost use Rattle.text_lines.specs.inner.Taken.{AdmitsCounted};
-ghost use Rattle.minelib_reading.specs.inner.UncountedItems.{bound_in, coef_width, destination_in, interval_in, limit_width, uncounted_coef};
+ghost use Rattle.minelib_reading.specs.inner.LinesTaken.{destination_in};
 ghost use Rattle.plan_parts.specs.declared.ranges.TheConstants.{MAX_BLOCKS};
 
-use crate::model::key_lines::is_exactly;
 use mine_instance::coefs::coef::Coef;
 use minelib_lines::problem::Problem;
 use pit_units::{Dec, OrMemory};
-use plan_parts::limit::{Bound, Limit};
-use text_lines::field_values::decimal_in;
 use text_lines::text_fault::TextKind;
-use text_lines::text_fields::{
-    count_fields, fault_kind_of_line, first_integer, first_millionths, has_field, next_field,
-};
+use text_lines::text_fields::{fault_kind_of_line, first_integer, first_millionths, has_field};
 
 /// Reads the values of a block, one for each destination, into `row`, from a line after `before` others. After an error `row` is
 /// unspecified.
@@ -132,7 +127,7 @@ fn uncounted_coef(
 ) -> Result<Coef, TextKind>
     requires { blocks ≤ MAX_BLOCKS }
     ensures value { result
-        ≡ uncounted_coef problem blocks destinations resources (fields_of line.now) }
+        ≡ item_in (coef_form problem blocks destinations resources) (fields_of line.now) }
     ensures block { IfOk result (λ coef. coef.b < MAX_BLOCKS) }
     ensures destination { IfOk result (λ coef. coef.d < 256) }
     ensures resource { IfOk result (λ coef. coef.r < 256) }
@@ -179,115 +174,6 @@ pub fn is_coef_after(coefs: &[Coef], coef: &Coef) -> bool
 {
     match coefs.last() {
         Some(last) => last.comes_before(coef),
-        None => true,
-    }
-}
-
-/// Returns the limit of a line, for these numbers of resources and periods.
-///
-/// # Errors
-///
-/// `Fields`, or the kind of the first invalid field.
-#[tactic(auto, using(crate::proofs::counts::LimitSteps::limit_same))]
-pub fn limit_of_line(resources: u8, periods: u8, line: &[u8]) -> Result<Limit, TextKind>
-    ensures { result ≡ limit_stated resources periods (fields_of line.now) }
-{
-    if count_fields(line) != limit_width(line) {
-        return Err(TextKind::Fields);
-    }
-    let (resource, after_resource) = first_integer(line, u64::from(resources))?;
-    let (period, after_period) = first_integer(after_resource, u64::from(periods))?;
-    let bound = bound_in(after_period)?;
-    Ok(Limit {
-        resource: resource as u8,
-        period: period as u8,
-        bound,
-    })
-}
-
-// Returns the number of fields that a limit must have: 5 for an interval, else 4.
-fn limit_width(line: &[u8]) -> usize
-    ensures { result ≡ limit_width (fields_of line.now) }
-{
-    if is_exactly(third_field(line), b"I") {
-        5
-    } else {
-        4
-    }
-}
-
-fn third_field(line: &[u8]) -> &[u8]
-    ensures { result.now ≡ slice_index_or (fields_of line.now) 2 [] }
-{
-    first_field(after_first_field(after_first_field(line)))
-}
-
-fn first_field(line: &[u8]) -> &[u8]
-    ensures { result.now ≡ slice_index_or (fields_of line.now) 0 [] }
-{
-    match next_field(line) {
-        Some((field, _)) => field,
-        None => &[],
-    }
-}
-
-// Returns the bytes after the first field, if there is one.
-fn after_first_field(line: &[u8]) -> &[u8]
-    ensures { fields_of result.now ≡ drop 1 (fields_of line.now) }
-{
-    match next_field(line) {
-        Some((_, following)) => following,
-        None => line,
-    }
-}
-
-fn first_decimal(line: &[u8]) -> Result<Dec, TextKind>
-    ensures { TakesFirst result (drop 1 (fields_of line.now))
-        (first_by decimal_in (fields_of line.now)) }
-{
-    match next_field(line) {
-        Some((field, _)) => decimal_in(field),
-        None => Err(TextKind::Fields),
-    }
-}
-
-fn bound_in(line: &[u8]) -> Result<Bound, TextKind>
-    ensures { result ≡ bound_in (fields_of line.now) }
-{
-    match next_field(line) {
-        Some((letter, values)) => bound_with(letter, values),
-        None => Err(TextKind::Fields),
-    }
-}
-
-fn bound_with(letter: &[u8], values: &[u8]) -> Result<Bound, TextKind>
-    ensures { result ≡ bound_in (letter.now ∷ fields_of values.now) }
-{
-    if is_exactly(letter, b"L") {
-        Ok(Bound::AtMost(first_decimal(values)?))
-    } else if is_exactly(letter, b"G") {
-        Ok(Bound::AtLeast(first_decimal(values)?))
-    } else if is_exactly(letter, b"I") {
-        interval_in(values)
-    } else {
-        Err(TextKind::Name)
-    }
-}
-
-fn interval_in(line: &[u8]) -> Result<Bound, TextKind>
-    ensures { result ≡ interval_in (fields_of line.now) }
-{
-    let low = first_decimal(line)?;
-    let high = first_decimal(after_first_field(line))?;
-    Ok(Bound::Between(low, high))
-}
-
-/// Returns whether the limit follows the last of others.
-pub fn is_limit_after(limits: &[Limit], limit: &Limit) -> bool
-    ensures { result ≡ is_after stands_before (last_of limits.now) limit.now }
-{
-    match limits.last() {
-        Some(last) => last.stands_before(limit),
         None => true,
     }
 }

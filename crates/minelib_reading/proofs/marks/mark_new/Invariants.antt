@@ -1,5 +1,5 @@
 use Rattle.std.proofs.Common.{◌≡◌, true, take}
-use Rattle.minelib_reading.specs.PrecText.{all_differ}
+use Rattle.minelib_reading.specs.LineForms.{all_differ}
 use Rattle.minelib_reading.proofs.counts.MarkFacts.{AreJustMarked}
 use Rattle.minelib_reading.proofs.marks.mark_new.Given as goal
 
