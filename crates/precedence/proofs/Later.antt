@@ -1,20 +1,15 @@
 -- A predecessor has a larger identifier.
 use Rattle.std.proofs.Common.{◌≡◌, ℕ, ◌<◌, true, false, List, [], ◌∷◌, Contains, length, get_or, slice_get, ap, arith, ⊎_elim}
-use Rattle.std.specs.List.Sorted.{IsStrictlyIncreasing}
 use Rattle.std.proofs.lemmas.Bool.{cases_lt}
 use Rattle.std.proofs.lemmas.Bool.Decides.{nat_tests}
-use Rattle.std.proofs.lemmas.List.{get_or-map, get_or_past, length-map}
+use Rattle.std.proofs.lemmas.List.{get_or_past, length-map}
 use Rattle.plan_parts.specs.Plan.{PlanParts}
 use Rattle.plan_parts.specs.declared.block.Block.{Block}
-use Rattle.precedence.specs.Closed.{ComeLater}
-use Rattle.precedence.specs.Codes.{place_code, place_codes}
 use Rattle.precedence.specs.Cone.{above, preds}
 use Rattle.precedence.specs.Identifier.{comes_before}
 use Rattle.precedence.specs.Numbering.{IsNumbering, NumberingView}
 use Rattle.precedence.proofs.LawFacts.{lies_higher}
-use Rattle.precedence.proofs.Members.{in_list}
 use Rattle.precedence.proofs.Order.{in_order}
-use Rattle.precedence.proofs.runs.Starts.{no_less}
 
 -- a block that comes before another is on no higher bench
 no_higher : (a b : Block) → comes_before a b ≡ true → b.z < a.z → ⊥

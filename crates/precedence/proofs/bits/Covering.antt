@@ -1,5 +1,5 @@
 -- What lanes meet by covers, and by the strips of all tables.
-use Rattle.std.proofs.Common.{◌≡◌, ℕ, ◌+◌, ◌-◌, ◌<◌, ◌≤◌, true, List, All, length, get_or, max, ◌⊎◌, inl, inr, ⊎_elim, sym, ap, subst, ◌∙◌, arith}
+use Rattle.std.proofs.Common.{◌≡◌, ℕ, ◌+◌, ◌-◌, ◌<◌, ◌≤◌, true, List, length, get_or, max, ◌⊎◌, inl, inr, ⊎_elim, sym, ap, subst, ◌∙◌, arith}
 use Rattle.std.proofs.lemmas.Bool.{cases_lt}
 use Rattle.std.proofs.lemmas.List.{get_or_default}
 use Rattle.precedence.specs.inner.lanes.Bits.{has_bit}
@@ -11,11 +11,6 @@ use Rattle.precedence.specs.declared.lanes.strip.Strip.{Strip}
 use Rattle.precedence.specs.declared.lanes.strips.Cover.{Cover}
 use Rattle.precedence.specs.declared.lanes.strips.Strips.{Strips}
 use Rattle.precedence.proofs.runs.RowOfCode.{in_this_row}
-
--- all lanes meet the rows of some table at each distance from `from` to `until` (exclusive), for all strips with these covers
-abbrev pub MeetAll : List Cover → List ConeTable → (from until : ℕ) → Type 0
-MeetAll covers tables from until = (lanes i d : ℕ) (by_table : List Strips) → length by_table ≡ length tables → All (IsCover lanes by_table) covers
-    → has_bit lanes i ≡ true → from ≤ d → d < until → MeetsAny tables by_table d i
 
 -- a lane meets the rows of one of the first n tables
 abbrev pub MeetsTables : List ConeTable → List Strips → (distance n i : ℕ) → Type 0

@@ -1,5 +1,5 @@
 -- The reduced list by the codes and the cones of the blocks.
-use Rattle.std.proofs.Common.{◌≡◌, ℕ, ◌^◌, ◌<◌, ◌||◌, Bool, true, false, not, List, [], ◌∷◌, Contains, filter, length, get_or, sym, ap, ◌∙◌, arith, ⊎_elim}
+use Rattle.std.proofs.Common.{◌≡◌, ℕ, ◌^◌, ◌<◌, ◌||◌, Bool, true, false, not, List, [], ◌∷◌, filter, length, get_or, sym, ap, ◌∙◌, arith, ⊎_elim}
 use Rattle.std.specs.List.{list_any}
 use Rattle.std.proofs.lemmas.Bool.{cases_Bool}
 use Rattle.std.proofs.lemmas.List.{get_or_default}
@@ -12,7 +12,6 @@ use Rattle.precedence.specs.inner.FoundFields.{found_in, scene_in, KeepsFound}
 use Rattle.precedence.specs.inner.lanes.Windows.{AreRetained}
 use Rattle.precedence.specs.inner.Lists.{lying}
 use Rattle.precedence.specs.inner.Rows.{is_in_rows}
-use Rattle.precedence.specs.inner.ZoneTables.{zone_rows}
 use Rattle.precedence.specs.declared.cones.cone_rows.Row.{Row}
 use Rattle.precedence.specs.declared.lists.found_preds.FoundPreds.TheInside.{Inside}
 use Rattle.precedence.proofs.AllLists.{few_found, found_at, found_length}

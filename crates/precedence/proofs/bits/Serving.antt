@@ -1,7 +1,7 @@
 -- What the lanes of a window retain, strip by strip and distance by distance.
-use Rattle.std.proofs.Common.{◌≡◌, ℕ, ◌+◌, ◌-◌, ◌<◌, ◌≤◌, ◌&&◌, ◌++◌, ◌∷◌, [], true, List, All, length, get_or, map, inl, inr, ◌⊎◌, refl, sym, ap, subst, ◌∙◌, arith, ⊎_elim}
+use Rattle.std.proofs.Common.{◌≡◌, ℕ, ◌+◌, ◌-◌, ◌<◌, ◌≤◌, ◌&&◌, ◌++◌, ◌∷◌, [], true, false, max, List, All, length, get_or, map, inl, inr, ◌⊎◌, refl, sym, ap, subst, ◌∙◌, arith, ⊎_elim}
 use Rattle.std.specs.List.Sorted.{IsStrictlyIncreasing}
-use Rattle.std.proofs.lemmas.Bool.{and_from, and_parts, cases_lt, cases_order, eqb-true}
+use Rattle.std.proofs.lemmas.Bool.{and_from, and_parts, both_ways, cases_lt, cases_order, eqb-true}
 use Rattle.std.proofs.lemmas.List.{get_or_append_left, get_or_default, get_or-map, get_or_push, length-append, length-map}
 use Rattle.std.proofs.lemmas.Nat.Bits.{bit_at-zero}
 use Rattle.precedence.specs.inner.lanes.Bits.{has_bit}
@@ -134,6 +134,21 @@ module _ (tables : List ConeTable) (sight : Sight) (lanes : ℕ) where
           (cases_lt k number);
       coming = λ k t le in'. omega (arith, sight.all.apart number k t (omega arith) in', ap (λ (x : Strip). x.start) (at t), ap (λ (x : Strip). x.len) (at t));
     }
+
+    -- no lane sees a block up to a later distance of the strip
+    pub found_unseen : (distance there count upto : ℕ) (found : List Found) → AreFound tables sight lanes distance found → s.start ≤ distance
+        → ((i : ℕ) → has_bit there i ≡ (has_bit lanes i && has_bit s.word (i + (distance - s.start)))) → there ≡ 0
+        → ((i k : ℕ) → distance - s.start ≤ k → k < distance - s.start + count → has_bit lanes i ≡ true → has_bit s.word (i + k) ≡ false)
+        → distance ≤ upto → upto ≤ s.start + s.len → upto ≤ distance + max count 1 → AreFound tables sight lanes upto found
+    found_unseen distance there count upto found h from seen none unseen le within_strip most = found_more distance upto found h le
+        (λ j i e t lt lane sees up low.
+        let bit = (only j i e t lt (omega (arith, from, up), omega (arith, low, within_strip)) sees).bit in
+        absurd (⊎_elim
+        (λ early. both_ways _ (unseen i (e - s.start) (omega (arith, up)) (omega (arith, early, from, up)) lane) bit)
+        (λ late.
+        let here : e ≡ distance = omega (arith, late, up, low, most) in
+        no_bit i (subst (λ n. has_bit n i ≡ true) none (seen i ∙ and_from _ _ lane (subst (λ n. has_bit s.word (i + (n - s.start)) ≡ true) here bit))))
+        (cases_lt e (distance + count))))
 
     module _ (distance there rest : ℕ) (found : List Found) (h : AreFound tables sight lanes distance found) (has : HasDistance s distance)
         (seen : (i : ℕ) → has_bit there i ≡ (has_bit lanes i && has_bit s.word (i + (distance - s.start))))

@@ -1,9 +1,11 @@
 -- One bit of a word through each operation.
 use Rattle.std.proofs.Common.{◌≡◌, ℕ, zero, suc, ◌+◌, ◌-◌, ◌/◌, ◌%◌, ◌^◌, ◌<◌, ◌≤◌, min, max, Bool, true, false, not, ◌&&◌, ◌||◌, ◌==◌, nat_lt, nat_le, bit_and, bit_or, ⊎_elim, refl, sym, ap, ◌∙◌, arith}
-use Rattle.std.specs.Int.{bit_at, w128}
+use Rattle.std.specs.Int.{bit_at, leading_zeros, trailing_zeros, w128}
 use Rattle.std.proofs.lemmas.Bool.{cases_lt, lt-ltb, le-ltb, le-leb, lt-leb, and_parts, and_cases, both_ways, not-true, not-false}
-use Rattle.std.proofs.lemmas.Nat.{shr-shr}
-use Rattle.std.proofs.lemmas.Nat.Bits.{bit_at_and, bit_at_or, bit_at_not, bit_at_above, bit_at-lt, bit_at_mask_inside, bit_at_mask_below, bit_at_mask_above}
+use Rattle.std.proofs.Math.Nat.{div-eq_of_lt-le, div-le_self, pow-suc}
+use Rattle.std.proofs.Math.Pow.{pow_mono}
+use Rattle.std.proofs.lemmas.Nat.{leading_length, leading_top, pow_pos, shr-shr}
+use Rattle.std.proofs.lemmas.Nat.Bits.{bit_at_and, bit_at_or, bit_at_not, bit_at_above, bit_at-lt, bit_at-trailing_zeros, bit_at-zero, bit_at_mask_inside, bit_at_mask_below, bit_at_mask_above}
 use Rattle.precedence.specs.inner.lanes.Bits.{has_bit}
 
 two_cases : (P : ℕ → Type 0) → P 0 → P 1 → (x : ℕ) → x < 2 → P x
@@ -65,3 +67,38 @@ has_bit_mask low high p le = ⊎_elim
   where
     ap2 : {a b : Bool} {x y : Bool} → a ≡ x → b ≡ y → (a && b) ≡ (x && y)
     ap2 e f = cc
+
+-- a word that has no bit from k on is below 2 ^ k
+pub below_by_bits : (n k : ℕ) → n < 2 ^ 128 → ((i : ℕ) → has_bit n i ≡ true → i < k) → n < 2 ^ k
+below_by_bits n k fits bits = ⊎_elim
+    (λ some.
+    let top = leading_top 128 n some fits in
+    let one : n / 2 ^ top.0 ≡ 1 = div-eq_of_lt-le (2 ^ top.0) (omega (arith, top.2)) (omega (arith, top.3, pow-suc 2 top.0)) in
+    let bit : has_bit n top.0 ≡ true = ap (λ x. x % 2 == 1) one in
+    let most = pow_mono {i = suc top.0} {j = k} (omega (arith, bits top.0 bit)) in
+    omega (arith, top.3, most))
+    (λ none. omega (arith, none, pow_pos k))
+    (cases_lt 0 n)
+
+pub lane_below : (lanes k i : ℕ) → lanes < 2 ^ k → has_bit lanes i ≡ true → i < k
+lane_below lanes k i fits lane = ⊎_elim
+    (λ lt. lt)
+    (λ above. absurd (both_ways _ (ap (λ n. n == 1) (bit_at_above lanes k i fits above)) lane))
+    (cases_lt i k)
+
+-- the bits of a word before its lowest one
+none_below : (n i : ℕ) → n < 2 ^ 128 → i < trailing_zeros w128 n → has_bit n i ≡ false
+none_below n i fits below = ⊎_elim
+    (λ some. ap (λ x. x == 1) ((bit_at-trailing_zeros w128 n some fits).2 i below))
+    (λ none. let zero : n ≡ 0 = omega (arith, none) in ap (λ m. has_bit m i) zero ∙ ap (λ x. x == 1) (bit_at-zero i))
+    (cases_lt 0 n)
+
+-- no lane sees a bit before the last lane sees the next one
+pub unseen_until : (lanes word at i k : ℕ) → lanes < 2 ^ 128 → word < 2 ^ 128 → at ≤ k
+    → k + 127 < at + trailing_zeros w128 (word / 2 ^ at) + leading_zeros w128 lanes → has_bit lanes i ≡ true → has_bit word (i + k) ≡ false
+unseen_until lanes word at i k fits word_fits from before lane =
+    let top = leading_length 128 lanes fits in
+    let within = lane_below lanes top.0 i top.2 lane in
+    let there : i + (k - at) + at ≡ i + k = omega (arith, from) in
+    ap (λ p. has_bit word p) (sym there) ∙ sym (has_bit_shr word at (i + (k - at)))
+    ∙ none_below (word / 2 ^ at) (i + (k - at)) (omega (arith, div-le_self word (2 ^ at), word_fits)) (omega (arith, top.1, within, before, from))

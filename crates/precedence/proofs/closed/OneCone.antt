@@ -1,5 +1,5 @@
 -- Lists of predecessors are closed if all zones have the same cone.
-use Rattle.std.proofs.Common.{◌≡◌, ℕ, ◌-◌, ◌<◌, ◌≤◌, ◌&&◌, zero, suc, Bool, true, List, [], ◌∷◌, Some, All, length, get_or, slice_get, nat_le, nat_lt, subst, sym, ap, ◌∙◌, arith, ⊎_elim}
+use Rattle.std.proofs.Common.{◌≡◌, ℕ, ◌-◌, ◌<◌, ◌≤◌, ◌&&◌, zero, suc, Bool, true, List, [], ◌∷◌, Some, All, length, get_or, slice_get, nat_le, nat_lt, sym, ap, ◌∙◌, arith, ⊎_elim}
 use Rattle.std.proofs.lemmas.Bool.{and_parts, cases_lt, le-leb, leb-true, lt-ltb, ltb-true}
 use Rattle.std.proofs.lemmas.List.{get_or-map, length-map}
 use Rattle.std.proofs.lemmas.Option.{slice_get-get_or}
@@ -9,9 +9,6 @@ use Rattle.plan_parts.specs.declared.block.Block.{Block}
 use Rattle.plan_parts.specs.declared.cone.Cone.{Cone}
 use Rattle.precedence.specs.Cone.{above, is_above, places_where, preds}
 use Rattle.precedence.specs.Zones.{HasZones}
-use Rattle.precedence.specs.inner.ZoneTables.{HasTables}
-use Rattle.precedence.specs.declared.cones.cone_rows.Extent.{Extent}
-use Rattle.precedence.specs.declared.cones.cone_table.ConeTable.{ConeTable}
 use Rattle.precedence.specs.IdRuns.{is_in}
 use Rattle.precedence.proofs.PlacesWhere.{told_nowhere, told_where}
 use Rattle.precedence.specs.Closed.{AreClosed, HasArc, Way}

@@ -1,6 +1,5 @@
 -- The row that contains a code.
 use Rattle.std.proofs.Common.{◌≡◌, ℕ, zero, suc, ◌+◌, ◌-◌, ◌<◌, ◌≤◌, ◌&&◌, ◌||◌, true, false, List, [], ◌∷◌, length, drop, get_or, nat_lt, nat_le, sym, ap, subst, ◌∙◌, arith, ⊎_elim}
-use Rattle.std.specs.List.Sorted.{IsStrictlyIncreasing}
 use Rattle.std.proofs.Math.Bool.{or-true}
 use Rattle.std.proofs.Math.Seq.{drop-cons}
 use Rattle.std.proofs.lemmas.Bool.{cases_lt, lt-ltb, le-leb}
@@ -8,7 +7,7 @@ use Rattle.std.proofs.lemmas.List.{drop_all, get_or-map, get_or_default, length-
 use Rattle.precedence.specs.inner.Rows.{is_in_row, is_in_rows, pasts, start_of, LieApart}
 use Rattle.precedence.specs.declared.cones.cone_rows.Row.{Row}
 use Rattle.precedence.proofs.runs.RunsOfRows.{apart_at, before_rows, pasts_rise, skip}
-use Rattle.precedence.proofs.runs.Starts.{from_start, no_less, start_before_in, start_within}
+use Rattle.precedence.proofs.runs.Starts.{from_start, start_before_in, start_within}
 
 in_some_row : (from c i : ℕ) (rows : List Row) (d : Row) → i < length rows → is_in_row from (get_or rows i d) c ≡ true → is_in_rows from rows c ≡ true
 in_some_row from c i [] d lt is = absurd (omega arith)

@@ -53,6 +53,15 @@ pub fn seen_at(lanes: u128, word: u128, at: u32) -> u128
     lanes & (word >> at)
 }
 
+/// Returns a number of offsets from `at` on at which no lane sees a bit of the word: up to where the last lane sees the next bit.
+#[inline(always)]
+pub fn unseen(lanes: u128, word: u128, at: u32) -> u32
+    requires { at < 128 }
+    ensures { (i k : ℕ) → at ≤ k → k < at + result → has_bit lanes i ≡ true → has_bit word (i + k) ≡ false }
+{
+    ((word >> at).trailing_zeros() + lanes.leading_zeros()).saturating_sub(127)
+}
+
 /// Returns the lanes that have no bit of the word at any of the `len` offsets from `first` on.
 #[inline(always)]
 pub fn without(lanes: u128, word: u128, first: u32, len: u32) -> u128

@@ -19,27 +19,28 @@ use std::cell::Cell;
 // The largest number of covers that are kept.
 const COVERS: usize = 6;
 
-/// Returns a distance up to which (exclusive) the covers apply: at each distance from `distance` on, all lanes see a block between.
+/// Returns a distance up to which (exclusive) a cover applies: at each distance from `distance` on, all lanes see a block between.
 pub fn all_covered_until(covers: &[Cover], tables: &[ConeTable], distance: u64) -> u64
     requires { distance < 10 ^ 15 }
     ensures { (lanes i d : ℕ) (by_table : List Strips) → length by_table ≡ length tables.now → All (IsCover lanes by_table) covers.now
         → has_bit lanes i ≡ true → distance ≤ d → d < result → MeetsAny tables.now by_table d i }
 {
-    let mut until = distance;
     for cover in covers {
         if cover.table < tables.len() {
-            until = covered_until(cover, &tables[cover.table], until);
+            let until = covered_until(cover, &tables[cover.table], distance);
+            if until > distance {
+                return until;
+            }
         }
     }
-    until
+    distance
 }
 
 // Returns a distance up to which (exclusive) one cover applies, from `distance` on.
 #[inline(always)]
 fn covered_until(cover: &Cover, table: &ConeTable, distance: u64) -> u64
-    requires { distance < 2 * 10 ^ 15 }
-    ensures small { result < 2 * 10 ^ 15 }
-    ensures between { (d : ℕ) → distance ≤ d → d < result
+    requires { distance < 10 ^ 15 }
+    ensures { (d : ℕ) → distance ≤ d → d < result
         → (e : ℕ) × (cover.now.first ≤ e) × (e < cover.now.past) × (e ≤ d) × (is_in_rows 0 table.now.rows.items (d - e) ≡ true) }
 {
     if cover.first >= cover.past || distance < cover.first {

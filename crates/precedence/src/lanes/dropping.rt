@@ -91,9 +91,9 @@ pub fn drop_by_strips(
     rest
 }
 
-// Returns the first row that ends at `target` or later. `hint` guesses the row before it.
+/// Returns the first row that ends at `target` or later. `hint` guesses the row before it.
 #[inline(always)]
-fn row_reached(table: &ConeTable, target: u64, hint: usize) -> usize
+pub fn row_reached(table: &ConeTable, target: u64, hint: usize) -> usize
     ensures { result ≡ start_of target (pasts table.now.rows.items) }
 {
     let past = table.past.as_slice();

@@ -11,12 +11,20 @@ ghost use Rattle.precedence.specs.inner.Rows.{is_in_rows, start_of};
 use crate::cones::block_cones::BlockCones;
 use crate::cones::cone_rows::Row;
 use crate::cones::cone_table::ConeTable;
-use crate::lanes::benches::{add_bench, start_near};
+use crate::lanes::benches::add_bench;
 use crate::lanes::bits::{bits_between, joined};
+use crate::lanes::dropping::row_reached;
 use crate::lanes::strip::Strip;
 use crate::lanes::strips::{Sight, Strips};
 use crate::places::start_of::start_of;
 use std::alloc::AllocError;
+
+// The row and the block that were found last: guesses.
+#[derive(Clone, Copy, Debug)]
+struct Near {
+    row: usize,
+    id: usize,
+}
 
 /// Puts what a window's lanes see in the rows of a table into `sight`. The block `id` is the first of the window.
 pub fn look(
@@ -32,11 +40,10 @@ pub fn look(
     ensures tables { length sight.new.by_table.items ≡ length (scene cones.now).tables }
 {
     clear(sight);
-    let mut near = id;
+    let mut near = Near { row: 0, id };
     let mut at = 0;
-    while let Some(strip) = next_strip(cones, table, base, at, near) {
+    while let Some(strip) = next_strip(cones, table, base, at, &mut near) {
         add_strip(sight, cones, base, strip)?;
-        near = strip.id;
         at = strip.start + u64::from(strip.len);
     }
     Ok(())
@@ -68,7 +75,7 @@ fn next_strip(
     table: &ConeTable,
     base: u64,
     at: u64,
-    near: usize,
+    near: &mut Near,
 ) -> Option<Strip>
     requires base { base < CODES }
     requires at { at ≤ 10 ^ 15 }
@@ -77,12 +84,12 @@ fn next_strip(
 {
     let codes = cones.places.codes.as_slice();
     let mut at = at;
-    let mut near = near;
     loop {
-        let row = row_from(table, at)?;
+        let row = row_from(table, at, near)?;
         let start = at.max(row.first);
         let len = (row.past - start).min(64);
-        let id = start_of(codes, near, base + start);
+        let id = start_of(codes, near.id, base + start);
+        near.id = id;
         if id >= codes.len() {
             return None;
         }
@@ -91,22 +98,22 @@ fn next_strip(
                 start,
                 len: len as u32,
                 word: 0,
-                id,
+                id: id as u32,
             });
         }
-        near = id;
         at = codes[id] - base - 63;
     }
 }
 
 // Returns the first row that ends after `at`.
 #[inline(always)]
-fn row_from(table: &ConeTable, at: u64) -> Option<Row>
+fn row_from(table: &ConeTable, at: u64, near: &mut Near) -> Option<Row>
     requires { at ≤ 10 ^ 15 }
     ensures some { IfSome result (λ row. IsRowFrom table.now.rows.items at row) }
     ensures none { result ≡ None → (e : ℕ) → at ≤ e → is_in_rows 0 table.now.rows.items e ≡ false }
 {
-    let number = start_near(table.past.as_slice(), table.benches.as_slice(), at + 1);
+    let number = row_reached(table, at + 1, near.row);
+    near.row = number;
     if number < table.rows.len() {
         Some(table.rows[number])
     } else {
@@ -133,7 +140,7 @@ fn add_strip(
     let from = base + strip.start;
     let past = from + u64::from(strip.len) + 63;
     let mut word = 0;
-    let mut id = strip.id;
+    let mut id = strip.id as usize;
     while id < codes.len() && codes[id] < past {
         let (bits, next) = run_from(cones, id, from, 128);
         let number = cones.tables.of_zone[cones.zones[id] as usize];
@@ -200,7 +207,7 @@ fn push_strip(strips: &mut Strips, strip: Strip) -> Result<(), AllocError>
 /// Returns the lanes of a window: the blocks from the block `id` on, up to 64 codes, whose cones have the table `number`.
 pub fn lanes_of(cones: &BlockCones<'_>, number: usize, id: usize) -> u128
     requires { id < length (scene cones.now).codes }
-    ensures few { (i : ℕ) → has_bit result i ≡ true → i < 64 }
+    ensures few { result < 2 ^ 64 }
     ensures sound { (i : ℕ) → has_bit result i ≡ true
         → (c : ℕ) × IsBlockAt (scene cones.now) (of_table (scene cones.now) number) (slice_index (scene cones.now).codes id + i) c }
     ensures complete { (i c : ℕ) → i < 64 → IsBlockAt (scene cones.now) (of_table (scene cones.now) number) (slice_index (scene cones.now).codes id + i) c

@@ -4,7 +4,7 @@ ghost use Rattle.std.specs.Prelude.{◌≡◌, ◌+◌, ◌^◌, ◌<◌, [], Al
 ghost use Rattle.precedence.specs.inner.lanes.Windows.{AreFound, AreFoundBy, Drops, IsCover, MeetsAny};
 
 use crate::cones::cone_table::ConeTable;
-use crate::lanes::bits::seen_at;
+use crate::lanes::bits::{seen_at, unseen};
 use crate::lanes::covering::{all_covered_until, drop_by_all, drop_by_covers};
 use crate::lanes::strips::{Cover, Found, Sight};
 use std::alloc::AllocError;
@@ -20,6 +20,7 @@ pub fn serve(
 ) -> Result<(), AllocError>
     requires found { found.old.items ≡ [] }
     requires covers { covers.old.items ≡ [] }
+    requires few { lanes < 2 ^ 64 }
     requires each { length sight.now.by_table.items ≡ length tables.now }
     ensures { OnOk result (AreFound tables.now sight.now lanes (10 ^ 15) found.new.items) }
 {
@@ -38,6 +39,7 @@ fn serve_strip(
     lanes: u128,
     number: usize,
 ) -> Result<(), AllocError>
+    requires few { lanes < 2 ^ 64 }
     requires number { number < length sight.now.all.strips.items }
     requires each { length sight.now.by_table.items ≡ length tables.now }
     requires covers { All (IsCover lanes sight.now.by_table.items) covers.old.items }
@@ -49,21 +51,26 @@ fn serve_strip(
     let past = strip.start + u64::from(strip.len);
     let mut distance = strip.start;
     while distance < past {
+        let at = (distance - strip.start) as u32;
+        let there = seen_at(lanes, strip.word, at);
+        if there == 0 {
+            distance += u64::from(unseen(lanes, strip.word, at).max(1));
+            continue;
+        }
         let until = all_covered_until(covers.as_slice(), tables, distance);
         if until > distance {
             distance = until;
-        } else {
-            let there = seen_at(lanes, strip.word, (distance - strip.start) as u32);
-            let rest = retained(covers, tables, sight, lanes, there, distance)?;
-            if rest != 0 {
-                found.push(Found {
-                    distance,
-                    lanes: rest,
-                    near: Cell::new(strip.id),
-                })?;
-            }
-            distance += 1;
+            continue;
         }
+        let rest = retained(covers, tables, sight, lanes, there, distance)?;
+        if rest != 0 {
+            found.push(Found {
+                distance,
+                lanes: rest as u64,
+                near: Cell::new(strip.id),
+            })?;
+        }
+        distance += 1;
     }
     Ok(())
 }

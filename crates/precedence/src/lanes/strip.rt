@@ -9,7 +9,7 @@ pub struct Strip {
     pub len: u32,
     pub word: u128,
     /// The first identifier that it sees: a guess.
-    pub id: usize,
+    pub id: u32,
     pub ghost some: { 0 < len },
     pub ghost few: { len ≤ 64 },
     pub ghost small: { start + len ≤ 10 ^ 15 },

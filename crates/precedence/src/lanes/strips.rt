@@ -40,9 +40,9 @@ pub struct Cover {
 #[derive(Debug, Drop)]
 pub struct Found {
     pub distance: u64,
-    pub lanes: u128,
+    pub lanes: u64,
     /// An identifier that a lane saw there, or a smaller one: a guess.
-    pub near: Cell<usize>,
+    pub near: Cell<u32>,
 }
 
 /// The lanes of a window from the code `base` on, and what they retain.

@@ -1,16 +1,24 @@
 //! Windows: the reduced lists of up to 64 blocks with one cone.
 
-ghost use Rattle.std.specs.Prelude.{◌≡◌, ◌<◌, [], IfOk, IsTrue, OnOk, length, slice_index, slice_index_or};
+ghost use Rattle.std.specs.Prelude.{◌≡◌, ◌<◌, ◌^◌, ℕ, true, [], IfOk, IsTrue, OnOk, length, slice_index, slice_index_or};
+ghost use Rattle.precedence.specs.inner.lanes.Bits.{has_bit};
 ghost use Rattle.precedence.specs.inner.lanes.Windows.{scene, AreRetained, AreWindows, HasLane, IsWindow, Scene, table_of};
 ghost use Rattle.precedence.specs.declared.lanes.strips.Window.{Window};
 
 use crate::cones::block_cones::BlockCones;
-use crate::lanes::bits::has_bit;
+use crate::lanes::bits::{has_bit, seen_at};
 use crate::lanes::looking::{lanes_of, look};
 use crate::lanes::serving::serve;
+use crate::lanes::strip::Strip;
 use crate::lanes::strips::{Sight, Strips, Window, Windows};
 use crate::places::start_of::start_of;
 use std::alloc::{AllocError, Global};
+
+// More strips than this are many.
+const MANY: usize = 4096;
+
+// Fewer blocks than this in each strip are few.
+const FEW: usize = 8;
 
 /// Returns one window without lanes for each of `tables` tables.
 pub fn no_windows(alloc: Global, tables: usize) -> Result<Windows, AllocError>
@@ -117,10 +125,35 @@ fn make_window(
     covers.clear();
     let tables = cones.tables.tables.as_slice();
     look(sight, cones, &tables[number], base, id)?;
+    let lanes = served_at_once(lanes, sight.all.strips.as_slice());
     serve(&mut window.found, covers, tables, sight, lanes)?;
     window.base = base;
     window.lanes = lanes;
     Ok(())
+}
+
+// Returns the lanes that are served at once: all, but only the first if many strips see few blocks, which each lane would retain at other
+// distances.
+fn served_at_once(lanes: u128, strips: &[Strip]) -> u128
+    requires { lanes < 2 ^ 64 }
+    ensures few { result < 2 ^ 64 }
+    ensures among { (i : ℕ) → has_bit result i ≡ true → has_bit lanes i ≡ true }
+    ensures first { has_bit lanes 0 ≡ true → has_bit result 0 ≡ true }
+{
+    if strips.len() > MANY && blocks_seen(strips) / FEW < strips.len() {
+        seen_at(lanes, 1, 0)
+    } else {
+        lanes
+    }
+}
+
+// Returns the number of blocks that the strips see, as far as numbers go: a guess.
+fn blocks_seen(strips: &[Strip]) -> usize {
+    let mut blocks = 0usize;
+    for strip in strips {
+        blocks = blocks.saturating_add(strip.word.count_ones() as usize);
+    }
+    blocks
 }
 
 // Appends the reduced list of a block that is a lane of the window.
@@ -140,10 +173,10 @@ fn add_lane(
     let code = codes[id];
     let lane = (code - window.base) as u32;
     for found in window.found.iter() {
-        if has_bit(found.lanes, lane) {
-            let id = start_of(codes, found.near.get(), code + found.distance);
+        if has_bit(u128::from(found.lanes), lane) {
+            let id = start_of(codes, found.near.get() as usize, code + found.distance) as u32;
             found.near.set(id);
-            ids.push(id as u32)?;
+            ids.push(id)?;
         }
     }
     Ok(())

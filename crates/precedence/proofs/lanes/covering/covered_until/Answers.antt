@@ -8,8 +8,8 @@ use Rattle.precedence.proofs.lanes.covering.covered_until.Goals as goal
 pub start_near-row-requires : goal.start_near-row-requires
 start_near-row-requires c = past_rises c.args.table.now c.as_slice.result.now c.as_slice.ensures.value
 
-pub returns-then-index-most-clause-between : goal.returns-then-index-most-clause-between
-returns-then-index-most-clause-between c = λ d le upto.
+pub returns-then-index-most : goal.returns-then-index-most
+returns-then-index-most c = λ d le upto.
     let rows = c.args.table.now.rows.items in
     let number = c.start_near-row.result in
     let row = c.index-then-index-most.result.now in

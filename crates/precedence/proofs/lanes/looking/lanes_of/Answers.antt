@@ -5,6 +5,7 @@ use Rattle.precedence.specs.inner.lanes.Windows.{of_table, scene}
 use Rattle.precedence.specs.inner.lanes.Looking.{HasBlocks, IsJoined}
 use Rattle.precedence.specs.inner.Between.{codes_in}
 use Rattle.precedence.proofs.bits.Looking.{has_all, has_none, has_run, joined_below, no_bits, table_read}
+use Rattle.precedence.proofs.bits.Words.{below_by_bits}
 use Rattle.precedence.proofs.runs.Starts.{no_less}
 use Rattle.precedence.proofs.lanes.looking.lanes_of.Goals as goal
 
@@ -14,6 +15,7 @@ loop-id-init c =
     let id = c.args.id in
     record {
       later = omega arith;
+      fits = omega arith;
       few = λ p bit. absurd (false≢true (sym (no_bits p) ∙ bit));
       blocks = has_none b (of_table (scene b) c.args.number) (get_or c.as_slice-codes.result.now id 0) 64 id
           (λ i lt. rw c.as_slice-codes.ensures.value (AllPairs-from_increasing (codes_in b) b.places.now.rising i id 0 lt c.requires));
@@ -38,11 +40,18 @@ loop-id-preserved-then-index-number c =
     record { left = c.joined-lanes.ensures.left; right = c.joined-lanes.ensures.right; either = c.joined-lanes.ensures.either } in
     record {
       later = omega (arith, had.later, run.later);
+      fits = omega arith;
       few = λ p bit. joined_below c.loop-id.lanes c.run_from-bits.result.0 c.joined-lanes.result 64 p joins had.few run.below bit;
       blocks = has_run b (of_table (scene b) c.args.number) (get_or c.as_slice-codes.result.now c.args.id 0) 64 id past 64 c.run_from-bits.result.0 run
           c.loop-id.lanes c.joined-lanes.result (omega arith) (λ i le less. run.table i le less ∙ table)
           joins had.blocks;
     }
+
+pub returns-else-codes-id-clause-few : goal.returns-else-codes-id-clause-few
+returns-else-codes-id-clause-few c = below_by_bits c.loop-id.lanes 64 c.loop-id.invariant.fits c.loop-id.invariant.few
+
+pub returns-after-loop-id-clause-few : goal.returns-after-loop-id-clause-few
+returns-after-loop-id-clause-few c = below_by_bits c.loop-id.lanes 64 c.loop-id.invariant.fits c.loop-id.invariant.few
 
 pub returns-else-codes-id-clause-complete : goal.returns-else-codes-id-clause-complete
 returns-else-codes-id-clause-complete c = λ i other lt at.

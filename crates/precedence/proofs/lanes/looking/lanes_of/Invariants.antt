@@ -1,4 +1,4 @@
-use Rattle.std.proofs.Common.{◌≡◌, ℕ, ◌-◌, ◌<◌, ◌≤◌, true, length}
+use Rattle.std.proofs.Common.{◌≡◌, ℕ, ◌-◌, ◌^◌, ◌<◌, ◌≤◌, true, length}
 use Rattle.precedence.specs.inner.lanes.Bits.{has_bit}
 use Rattle.precedence.specs.inner.lanes.Windows.{of_table, scene}
 use Rattle.precedence.specs.inner.lanes.Looking.{HasBlocks}
@@ -8,6 +8,7 @@ use Rattle.precedence.proofs.lanes.looking.lanes_of.Given as goal
 abbrev pub invariant-loop-id : goal.invariant-loop-id
 invariant-loop-id l = record {
   later : l.fn.id ≤ l.id;
+  fits : l.lanes < 2 ^ 128;
   few : (p : ℕ) → has_bit l.lanes p ≡ true → p < 64;
   blocks : HasBlocks (scene l.cones) (of_table (scene l.cones) l.number) l.base 64 l.id l.lanes;
 }

@@ -1,8 +1,11 @@
 use Rattle.std.proofs.Common.{◌≡◌, ◌+◌, ◌<◌, ◌≤◌, List, All, min, subst, sym, refl, ap, ◌∙◌, arith}
+use Rattle.std.proofs.lemmas.Bool.{and_parts}
+use Rattle.precedence.specs.inner.lanes.Bits.{has_bit}
 use Rattle.precedence.specs.inner.lanes.Windows.{AreFound, IsCover}
 use Rattle.precedence.specs.declared.lanes.strips.Cover.{Cover}
 use Rattle.precedence.specs.declared.lanes.strips.Found.{Found}
-use Rattle.precedence.proofs.bits.Serving.{found_end, found_more, found_not, found_start, found_these}
+use Rattle.precedence.proofs.bits.Serving.{found_end, found_more, found_not, found_start, found_these, found_unseen}
+use Rattle.precedence.proofs.bits.Words.{below_by_bits, lane_below}
 use Rattle.precedence.proofs.lanes.serving.serve_strip.Goals.{then-rest-ne0+in_ok-push, else-rest-ne0}
 use Rattle.precedence.proofs.lanes.serving.serve_strip.Goals as goal
 
@@ -33,6 +36,29 @@ loop-distance-preserved-then-until-distance c =
           (subst (λ (cs : List Cover). All (IsCover c.args.lanes c.args.sight.now.by_table.items) cs) (sym c.as_slice.ensures.value) inv.covers)
           lane (omega (arith, c.loop-distance-test.true)) (omega arith));
     }
+
+pub loop-distance-preserved-then-there-eq0 : goal.loop-distance-preserved-then-there-eq0
+loop-distance-preserved-then-there-eq0 c =
+    let inv = c.loop-distance.invariant in
+    let s = c.index-strip.result.now in
+    let d = c.loop-distance.distance in
+    let past = s.start + c.from.result in
+    let now : min d past ≡ d = omega (arith, c.loop-distance-test.true) in
+    let before = subst (λ n. AreFound c.args.tables.now c.args.sight.now c.args.lanes n c.loop-distance.found.items) now inv.found in
+    record {
+      low = omega (arith, inv.low);
+      covers = inv.covers;
+      found = found_unseen c.args.tables.now c.args.sight.now c.args.lanes c.args.number s c.requires.number c.index-strip.ensures
+          d c.seen_at-there.result c.unseen.result (min (d + c.from-distance.result) past) c.loop-distance.found.items before inv.low
+          c.seen_at-there.ensures c.if-there-eq0.true c.unseen.ensures (omega (arith, c.loop-distance-test.true)) (omega (arith, c.from.ensures))
+          (omega (arith, c.from-distance.ensures, c.max.ensures));
+    }
+
+pub overflow_cast-rest : goal.overflow_cast-rest
+overflow_cast-rest c =
+    let few = below_by_bits c.in_ok-rest.rest 64 (omega arith) (λ i kept.
+    lane_below c.args.lanes 64 i c.requires.few (and_parts (has_bit c.args.lanes i) _ (sym (c.seen_at-there.ensures i) ∙ c.in_ok-rest.ensures.drops.may.among i kept)).0) in
+    omega (arith, few)
 
 pub loop-distance-preserved : goal.loop-distance-preserved
 loop-distance-preserved c =

@@ -13,7 +13,7 @@ overflow_add-code c =
     let at = ap (λ (cs : List ℕ). get_or cs c.args.id 0) c.as_slice-codes.ensures.value in
     let place = place_seen (scene cones) cones.places.now.rising c.args.id c.args.window.now c.requires.window c.requires.lane
     c.as_slice-codes.result.now c.as_slice-codes.ensures.value c.deref-found-items.result.now c.deref-found-items.ensures.value
-    c.loop-found.found-index c.found-item.result (omega (arith, c.loop-found-test.true)) c.found-item.is (sym c.has_bit.ensures ∙ c.if-has_bit.true) in
+    c.loop-found.found-index c.found-item.result (omega (arith, c.loop-found-test.true)) c.found-item.is (sym (c.has_bit.ensures ∙ ap (λ n. has_bit n (get_or c.as_slice-codes.result.now c.args.id 0 - c.args.window.now.base)) c.from.ensures) ∙ c.if-has_bit.true) in
     omega (arith, at, place.0, cones.places.now.small c.args.id 0 c.requires.id)
 
 pub overflow_cast-id : goal.overflow_cast-id
@@ -39,13 +39,13 @@ loop-found-preserved c =
       | then-has_bit+in_ok-push w ↦
           let place = place_seen (scene cones) cones.places.now.rising c.args.id c.args.window.now c.requires.window c.requires.lane
           c.as_slice-codes.result.now value c.deref-found-items.result.now c.deref-found-items.ensures.value
-          k f (omega (arith, c.loop-found-test.true)) c.found-item.is (sym c.has_bit.ensures ∙ w.if-has_bit.true) in
+          k f (omega (arith, c.loop-found-test.true)) c.found-item.is (sym (c.has_bit.ensures ∙ ap (λ n. has_bit n (get_or c.as_slice-codes.result.now c.args.id 0 - c.args.window.now.base)) c.from.ensures) ∙ w.if-has_bit.true) in
           subst (λ (ids : List ℕ). AreListed codes from (from - base) (k + 1) found ids)
           (sym (ap (λ v. v.items) w.ids-is ∙ w.in_ok-push.ensures.items))
           (listed_push codes cones.places.now.rising from (from - base) found is.rising k c.loop-found.ids.items c.loop-found.invariant within _
           (subst (λ n. IsOf codes from (from - base) found k n) (sym w.start_of-id.ensures) place.1))
       | else-has_bit w ↦
-          let none = subst (λ (cs : List ℕ). has_bit f.lanes (get_or cs c.args.id 0 - base) ≡ false) value (sym c.has_bit.ensures ∙ w.if-has_bit.false) in
+          let none = subst (λ (cs : List ℕ). has_bit f.lanes (get_or cs c.args.id 0 - base) ≡ false) value (sym (c.has_bit.ensures ∙ ap (λ n. has_bit n (get_or c.as_slice-codes.result.now c.args.id 0 - c.args.window.now.base)) c.from.ensures) ∙ w.if-has_bit.false) in
           subst (λ (ids : List ℕ). AreListed codes from (from - base) (k + 1) found ids)
           (sym (ap (λ v. v.items) w.ids-is))
           (listed_skip codes cones.places.now.rising from (from - base) found is.rising k c.loop-found.ids.items c.loop-found.invariant within f

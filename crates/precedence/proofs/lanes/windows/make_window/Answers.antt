@@ -27,6 +27,6 @@ returns-clause-windows c =
     ap (λ (t : ConeTable). t.rows.items) (c.index-tables-number.is ∙ ap (λ (ts : List ConeTable). slice_index_or ts c.args.number table) value)
     ∙ sym (ap rows_of_table (slice_get-get_or c.args.cones.now.tables.now.tables.items c.args.number table (omega (arith, within, c.requires.number)))) in
     let sees = subst (λ (rows : List Row). Sees b rows c.index-base.result.now (10 ^ 15) c.look.new.sight) rows c.in_ok-look.ensures.sees in
-    let are = subst (λ (ts : List ConeTable). AreFound ts c.look.new.sight c.lanes_of-lanes.result (10 ^ 15) c.serve.new.found.items) value c.in_ok-serve.ensures in
+    let are = subst (λ (ts : List ConeTable). AreFound ts c.look.new.sight c.served_at_once-lanes.result (10 ^ 15) c.serve.new.found.items) value c.in_ok-serve.ensures in
     windows_with b c.args.windows.now _ c.args.number _ c.requires.windows refl c.look.ensures.tables
     (window_of b c.args.number _ c.look.new.sight sees (numbers_of c.args.cones.now) are)
