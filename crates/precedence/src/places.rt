@@ -8,7 +8,6 @@ ghost use Rattle.precedence.specs.declared.places.code.TheConstants.{CODES};
 ghost use Rattle.plan_parts.specs.declared.ranges.TheConstants.{MAX_BLOCKS};
 
 use crate::places::code::code;
-use crate::places::span::Span;
 use crate::places::spans::{is_sparse, spans_of};
 use plan_parts::block::Block;
 use std::alloc::{AllocError, Global};
@@ -22,9 +21,9 @@ pub mod start_of;
 #[derive(Debug, Drop)]
 pub struct Places {
     pub codes: Vec<u64>,
-    /// The span along x of each chunk of identifiers.
-    pub spans: Vec<Span>,
-    /// Whether looking at the spans saves time.
+    /// The columns of each chunk of identifiers, a bit for each column.
+    pub spans: Vec<u128>,
+    /// Whether looking at the columns saves time.
     pub sparse: bool,
     pub ghost rising: { IsStrictlyIncreasing codes.items },
     pub ghost few: { length codes.items ≤ MAX_BLOCKS },
@@ -32,7 +31,7 @@ pub struct Places {
     pub ghost spanned: { AreSpans spans.items codes.items },
 }
 
-/// Returns the codes and spans of blocks that are ordered by identifier.
+/// Returns the codes and columns of blocks that are ordered by identifier.
 pub fn places_of(alloc: Global, blocks: &[Block]) -> Result<Places, AllocError>
     requires rising { IsStrictlyIncreasing (place_codes blocks.now) }
     requires few { length blocks.now ≤ MAX_BLOCKS }

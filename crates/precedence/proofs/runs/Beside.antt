@@ -1,25 +1,25 @@
 -- Blocks beside the rows of a cone.
-use Rattle.std.proofs.Common.{◌≡◌, ℕ, ◌+◌, ◌-◌, ◌<◌, ◌≤◌, ◌||◌, false, List, All, [], ◌∷◌, length, drop, get_or, take, length-take, length-drop, refl, ap, ◌∙◌, arith}
+use Rattle.std.proofs.Common.{◌≡◌, ℕ, ◌+◌, ◌-◌, ◌/◌, ◌<◌, ◌≤◌, ◌||◌, true, false, List, All, [], ◌∷◌, length, drop, get_or, take, length-take, length-drop, refl, sym, ap, subst, ◌∙◌, arith}
 use Rattle.std.proofs.lemmas.List.{get_or-drop, get_or-map, get_or-take}
 use Rattle.std.proofs.lemmas.List.Elements.{All-head, All-tail}
 use Rattle.plan_parts.specs.declared.block.Block.{Block}
 use Rattle.precedence.specs.Codes.{place_code, place_codes}
-use Rattle.precedence.specs.inner.Beside.{x_of, IsInSpan, IsNoWider}
+use Rattle.precedence.specs.inner.Beside.{x_of, IsInColumns, IsNoWider}
+use Rattle.precedence.specs.inner.lanes.Bits.{has_bit}
 use Rattle.precedence.specs.inner.Rows.{is_in_row, is_in_rows}
 use Rattle.precedence.specs.declared.cones.cone_rows.Row.{Row}
-use Rattle.precedence.specs.declared.places.span.Span.{Span}
 
 -- a block's code has its index along x
 pub x_is : (b : Block) → x_of (place_code b) ≡ b.x
 x_is b = omega (arith, b.x_in_grid)
 
--- a span of a part of the blocks covers each of them
-pub in_span : (span : Span) (blocks : List Block) (start end m : ℕ) → start ≤ m → m < end → end ≤ length blocks
+-- the columns of a part of the blocks have each of them
+pub in_columns : (columns : ℕ) (blocks : List Block) (start end m : ℕ) → start ≤ m → m < end → end ≤ length blocks
     → ((k : ℕ) (d : Block) → k < length (take (end - start) (drop start blocks))
-    → (span.west ≤ (get_or (take (end - start) (drop start blocks)) k d).x) × ((get_or (take (end - start) (drop start blocks)) k d).x ≤ span.east))
-    → IsInSpan span (get_or (place_codes blocks) m 0)
-in_span span [] start end m le lt within held = absurd (omega arith)
-in_span span (b ∷ bs) start end m le lt within held =
+    → has_bit columns ((get_or (take (end - start) (drop start blocks)) k d).x / 79) ≡ true)
+    → IsInColumns columns (get_or (place_codes blocks) m 0)
+in_columns columns [] start end m le lt within held = absurd (omega arith)
+in_columns columns (b ∷ bs) start end m le lt within held =
     let blocks : List Block = b ∷ bs in
     let long : m - start < length (take (end - start) (drop start blocks)) =
     omega (arith, length-take (end - start) (drop start blocks), length-drop start blocks) in
@@ -32,8 +32,8 @@ in_span span (b ∷ bs) start end m le lt within held =
     ap x_of (get_or-map place_code blocks m b 0 (omega arith)) ∙ x_is (get_or blocks m b) in
     let x_at = ap (λ (b : Block). b.x) same in
     record {
-      west = omega (arith, h.0, x_at, x);
-      east = omega (arith, h.1, x_at, x);
+      small = let in_grid = (get_or blocks m b).x_in_grid in omega (arith, x, in_grid);
+      bit = subst (λ n. has_bit columns (n / 79) ≡ true) (x_at ∙ sym x) h;
     }
 
 -- a code in no row that is no wider is in none of these rows

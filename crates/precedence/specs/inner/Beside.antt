@@ -1,9 +1,10 @@
 -- Blocks beside the rows of a cone along x.
-use Rattle.std.specs.Prelude.{◌≡◌, ℕ, ◌+◌, ◌*◌, ◌/◌, ◌%◌, ◌<◌, ◌≤◌, List, All, false, length, slice_index, slice_index_or, ◌⊎◌}
+use Rattle.std.specs.Prelude.{◌≡◌, ℕ, ◌+◌, ◌*◌, ◌/◌, ◌%◌, ◌<◌, ◌≤◌, List, All, true, false, length, slice_index, ◌⊎◌}
 use Rattle.plan_parts.specs.declared.ranges.TheConstants.{GRID_CELLS}
 use Rattle.precedence.specs.inner.Rows.{is_in_row}
+use Rattle.precedence.specs.inner.lanes.Bits.{has_bit}
 use Rattle.precedence.specs.declared.places.code.TheConstants.{ROW}
-use Rattle.precedence.specs.declared.places.span.Span.{Span}
+use Rattle.precedence.specs.declared.places.span.TheConstants.{COLUMN}
 use Rattle.precedence.specs.declared.places.spans.TheConstants.{CHUNK}
 use Rattle.precedence.specs.declared.cones.cone_rows.Row.{Row}
 use Rattle.precedence.specs.declared.cones.cone_rows.Widths.{Widths}
@@ -12,15 +13,15 @@ use Rattle.precedence.specs.declared.cones.cone_rows.Widths.{Widths}
 abbrev pub x_of : ℕ → ℕ
 x_of code = code % ROW
 
--- the code's index along x is in the span
-pub record IsInSpan (span : Span) (code : ℕ) : Type 0 where
-  pub west : span.west ≤ x_of code
-  pub east : x_of code ≤ span.east
+-- the column of the code's index along x has a bit
+pub record IsInColumns (columns code : ℕ) : Type 0 where
+  pub small : x_of code < GRID_CELLS
+  pub bit : has_bit columns (x_of code / COLUMN) ≡ true
 
--- each span covers the blocks of its chunk
-abbrev pub AreSpans : List Span → List ℕ → Type 0
-AreSpans spans codes = (k m : ℕ) (d : Span) → k < length spans → k * CHUNK ≤ m → m < k * CHUNK + CHUNK → m < length codes
-    → IsInSpan (slice_index_or spans k d) (slice_index codes m)
+-- the columns of each chunk have the blocks of the chunk
+abbrev pub AreSpans : List ℕ → List ℕ → Type 0
+AreSpans spans codes = (k m : ℕ) → k < length spans → k * CHUNK ≤ m → m < k * CHUNK + CHUNK → m < length codes
+    → IsInColumns (slice_index spans k) (slice_index codes m)
 
 -- the distance to the cell straight above or below, in the row of blocks nearest to a cone row's end
 abbrev pub middle : ℕ → ℕ

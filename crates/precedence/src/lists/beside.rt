@@ -1,15 +1,20 @@
 //! Passes over blocks beside a cone, many at a time.
 
-ghost use Rattle.std.specs.Prelude.{◌≡◌, ◌+◌, ◌*◌, ◌/◌, ◌<◌, ◌≤◌, ℕ, false, length, slice_index, IsTrue};
+ghost use Rattle.std.specs.Prelude.{◌≡◌, ◌+◌, ◌*◌, ◌/◌, ◌<◌, ◌≤◌, ℕ, true, false, length, slice_index, IsTrue};
 ghost use Rattle.precedence.specs.inner.Beside.{IsBeside, IsNoWider, LeaveOut};
 ghost use Rattle.precedence.specs.inner.Rows.{is_in_row};
+ghost use Rattle.precedence.specs.inner.lanes.Bits.{has_bit};
 ghost use Rattle.precedence.specs.declared.cones.cone_rows.Row.{Row};
+ghost use Rattle.precedence.specs.declared.places.span.TheConstants.{COLUMN};
 ghost use Rattle.precedence.specs.declared.places.spans.TheConstants.{CHUNK};
+ghost use Rattle.plan_parts.specs.declared.ranges.TheConstants.{GRID_CELLS};
 
 use crate::cones::cone_rows::Widths;
+use crate::lanes::bits::{bits_between, seen_at};
 use crate::lists::row_runs::Hint;
 use crate::places::Places;
 use crate::places::code::ROW;
+use crate::places::span::COLUMN;
 use crate::places::spans::{CHUNK, FEW_ROWS};
 use plan_parts::ranges::GRID_CELLS;
 
@@ -27,11 +32,14 @@ pub struct Behind {
 /// The value before the first row.
 pub const BEFORE_ALL: Behind = Behind { id: 0, retry: 0 };
 
-// The columns of a cone: blocks with an index along x before `west`, or from `east` on, are beside it.
+// The sides of a cone: blocks with an index along x before `west`, or from `east` on, are beside it. The columns between them are a bit
+// each.
 #[derive(Clone, Copy, Debug)]
 struct Sides {
     west: u64,
     east: u64,
+    columns: u128,
+    ghost between: { (x : ℕ) → west ≤ x → x < east → x < GRID_CELLS → has_bit columns (x / COLUMN) ≡ true },
 }
 
 /// A method to pass over blocks after an empty range.
@@ -153,28 +161,21 @@ fn first_not_beside(
     ) {
         return id;
     }
-    pass_beside(places, past, columns_of(widths, from), i, id, from)
+    pass_beside(places, past, sides_of(widths, from), i, id, from)
 }
 
-// Returns the first identifier from `id` on that is not passed over, for these columns.
-fn pass_beside(
-    places: &Places,
-    past: &[u64],
-    columns: Sides,
-    i: usize,
-    id: usize,
-    from: u64,
-) -> usize
+// Returns the first identifier from `id` on that is not passed over, for these sides.
+fn pass_beside(places: &Places, past: &[u64], sides: Sides, i: usize, id: usize, from: u64) -> usize
     requires id { id ≤ length places.now.codes.items }
     ensures later { id ≤ result }
     ensures within { result ≤ length places.now.codes.items }
     ensures beside { (m : ℕ) → id ≤ m → m < result
-        → IsBeside columns.west columns.east (slice_index places.now.codes.items m) }
+        → IsBeside sides.west sides.east (slice_index places.now.codes.items m) }
 {
     let codes = places.codes.as_slice();
     let mut next = id;
     let mut row = i.saturating_add(FEW_ROWS);
-    while gets_on(codes, past, row, next, from) && lies_beside(places, columns, next) {
+    while gets_on(codes, past, row, next, from) && lies_beside(places, sides, next) {
         next = end_of_chunk(codes.len(), next);
         row = row.saturating_add(FEW_ROWS);
     }
@@ -203,35 +204,41 @@ fn end_of_chunk(count: usize, id: usize) -> usize
     (id / CHUNK * CHUNK).saturating_add(CHUNK).min(count)
 }
 
-// Returns whether the blocks of an identifier's chunk, from the identifier on, are beside the columns.
+// Returns whether the blocks of an identifier's chunk, from the identifier on, are beside the cone.
 #[inline(always)]
-fn lies_beside(places: &Places, columns: Sides, id: usize) -> bool
+fn lies_beside(places: &Places, sides: Sides, id: usize) -> bool
     ensures { IsTrue result → (m : ℕ) → id ≤ m → m < id / CHUNK * CHUNK + CHUNK
         → m < length places.now.codes.items
-        → IsBeside columns.west columns.east (slice_index places.now.codes.items m) }
+        → IsBeside sides.west sides.east (slice_index places.now.codes.items m) }
 {
     match places.spans.get(id / CHUNK) {
-        Some(span) => {
-            u64::from(span.east) < columns.west || columns.east <= u64::from(span.west)
-        }
+        Some(span) => seen_at(*span, sides.columns, 0) == 0,
         None => false,
     }
 }
 
-// Returns the columns of a cone, as seen from the code `from`.
-fn columns_of(widths: &Widths, from: u64) -> Sides
+// Returns the sides of a cone, as seen from the code `from`.
+fn sides_of(widths: &Widths, from: u64) -> Sides
     ensures { LeaveOut widths.now from result.west result.east }
 {
     let x = from % ROW;
     let cells = u64::from(GRID_CELLS);
     if x >= cells || widths.west > WIDE || widths.east > WIDE {
-        return Sides {
-            west: 0,
-            east: cells,
-        };
+        return around(0, cells);
     }
+    around(x.saturating_sub(widths.west), x + widths.east)
+}
+
+fn around(west: u64, east: u64) -> Sides
+    ensures west { result.west ≡ west }
+    ensures east { result.east ≡ east }
+{
+    let column = u64::from(COLUMN);
+    let past = (east / column).min(127) + 1;
+    let first = (west / column).min(past);
     Sides {
-        west: x.saturating_sub(widths.west),
-        east: x + widths.east,
+        west,
+        east,
+        columns: bits_between(first as u32, past as u32),
     }
 }

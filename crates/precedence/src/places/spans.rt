@@ -1,17 +1,19 @@
-//! The spans of blocks along x, by chunks of identifiers.
+//! The columns of blocks along x, by chunks of identifiers.
 
-ghost use Rattle.std.specs.Prelude.{◌≡◌, ◌<◌, ◌≤◌, ℕ, IfOk, length, slice_index_or};
+ghost use Rattle.std.specs.Prelude.{◌≡◌, ◌/◌, ◌<◌, ℕ, true, IfOk, length, slice_index_or};
 ghost use Rattle.plan_parts.specs.declared.block.Block.{Block};
 ghost use Rattle.precedence.specs.Codes.{place_codes};
 ghost use Rattle.precedence.specs.inner.Beside.{AreSpans};
+ghost use Rattle.precedence.specs.inner.lanes.Bits.{has_bit};
+ghost use Rattle.precedence.specs.declared.places.span.TheConstants.{COLUMN};
 
+use crate::lanes::bits::{bits_between, joined};
 use crate::places::code::{BENCH, ROW};
-use crate::places::span::Span;
+use crate::places::span::COLUMN;
 use plan_parts::block::Block;
-use plan_parts::ranges::GRID_CELLS;
 use std::alloc::{AllocError, Global};
 
-/// The number of identifiers that share a span.
+/// The number of identifiers in a chunk.
 pub const CHUNK: usize = 64;
 
 /// The number of rows that must be passed over with each chunk: looking at a row takes hardly longer than looking at a chunk.
@@ -33,8 +35,8 @@ pub fn is_sparse(codes: &[u64]) -> bool {
     thin > MANY
 }
 
-/// Returns the span of each chunk of blocks.
-pub fn spans_of(alloc: Global, blocks: &[Block]) -> Result<Vec<Span>, AllocError>
+/// Returns the columns of each chunk of blocks.
+pub fn spans_of(alloc: Global, blocks: &[Block]) -> Result<Vec<u128>, AllocError>
     ensures { IfOk result (λ spans. AreSpans spans.items (place_codes blocks.now)) }
 {
     let chunks = blocks.len() / CHUNK + 1;
@@ -47,15 +49,13 @@ pub fn spans_of(alloc: Global, blocks: &[Block]) -> Result<Vec<Span>, AllocError
     Ok(spans)
 }
 
-fn span_of(blocks: &[Block]) -> Span
-    ensures { (k : ℕ) (d : Block) → k < length blocks.now
-        → (result.west ≤ (slice_index_or blocks.now k d).x) × ((slice_index_or blocks.now k d).x ≤ result.east) }
+fn span_of(blocks: &[Block]) -> u128
+    ensures { (k : ℕ) (d : Block) → k < length blocks.now → has_bit result ((slice_index_or blocks.now k d).x / COLUMN) ≡ true }
 {
-    let mut west = GRID_CELLS - 1;
-    let mut east = 0;
+    let mut columns = 0;
     for block in blocks {
-        west = west.min(block.x);
-        east = east.max(block.x);
+        let column = u32::from(block.x / COLUMN);
+        columns = joined(columns, bits_between(column, column + 1));
     }
-    Span { west, east }
+    columns
 }

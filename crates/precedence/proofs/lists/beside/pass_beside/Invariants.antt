@@ -6,7 +6,7 @@ abbrev pub invariant-loop-codes : goal.invariant-loop-codes
 invariant-loop-codes l = record {
   later : l.id ≤ l.next;
   within : l.next ≤ length l.places.codes.items;
-  beside : (m : ℕ) → l.id ≤ m → m < l.next → IsBeside l.columns.west l.columns.east (get_or l.places.codes.items m 0);
+  beside : (m : ℕ) → l.id ≤ m → m < l.next → IsBeside l.sides.west l.sides.east (get_or l.places.codes.items m 0);
 }
 
 abbrev pub decreases-loop-codes : goal.decreases-loop-codes

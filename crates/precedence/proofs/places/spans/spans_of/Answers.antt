@@ -2,7 +2,7 @@ use Rattle.std.proofs.Common.{◌≡◌, ◌*◌, ◌+◌, ◌∷◌, [], length
 use Rattle.std.proofs.lemmas.Bool.{cases_lt}
 use Rattle.std.proofs.lemmas.List.{get_or_append_left, get_or_push, length-map, length_push}
 use Rattle.precedence.specs.Codes.{place_code}
-use Rattle.precedence.proofs.runs.Beside.{in_span}
+use Rattle.precedence.proofs.runs.Beside.{in_columns}
 use Rattle.precedence.proofs.places.spans.spans_of.Goals as goal
 
 pub loop-k-preserved : goal.loop-k-preserved
@@ -15,12 +15,12 @@ loop-k-preserved c =
     let pushed = c.in_ok-push.ensures.items in
     record {
       each = ap length pushed ∙ length_push spans span ∙ ap (λ n. n + 1) had.each;
-      spans = λ j m d lt low up within. rw pushed (⊎_elim
-          (λ before. rw (get_or_append_left spans (span ∷ []) d j before) (had.spans j m d before low up within))
+      spans = λ j m lt low up within. rw pushed (⊎_elim
+          (λ before. rw (get_or_append_left spans (span ∷ []) 0 j before) (had.spans j m before low up within))
           (λ last.
           let here : j ≡ k = omega (arith, ap length pushed, length_push spans span, had.each) in
-          rw (get_or_push spans span d j (had.each ∙ sym here))
-          (in_span span blocks (k * 64) c.min-end.result m (omega (arith, here, low))
+          rw (get_or_push spans span 0 j (had.each ∙ sym here))
+          (in_columns span blocks (k * 64) c.min-end.result m (omega (arith, here, low))
           (omega (arith, c.min-end.ensures, here, up, within, length-map blocks place_code)) (omega (arith, c.min-end.ensures)) c.span_of.ensures))
           (cases_lt j (length spans)));
     }
