@@ -8,7 +8,7 @@ use Rattle.devices.specs.feeds.ReadWhole.{FailsAsFed}
 use Rattle.text_lines.specs.declared.text_fault.TextFault.{TextFault}
 use Rattle.text_lines.specs.declared.text_fault.TextFile.{TextFile}
 use Rattle.check_command.specs.Checked.{AreReadBefore, FailsIn, IsCheckStatus, IsFoundIn, IsMissing, IsNotAsked, path_of}
-use Rattle.check_command.specs.inner.CheckSteps.{CountsAll, CountsFile}
+use Rattle.check_command.specs.inner.CheckSteps.{CountsAll, HasTextWith}
 use Rattle.check_command.specs.inner.CountSteps.{counted_on, no_counts}
 use Rattle.check_command.proofs.CountedAll.{counted_all}
 use Rattle.minelib_reading.specs.FedCounts.{IsFedAnswer}
@@ -31,7 +31,7 @@ module _ (base : List ℕ) {F T : Type 0} (state : F → FeedState) (path : T �
       → (opened : T) × (path opened ≡ asked) → IsFedAnswer (counted_on file so_far) LARGEST_LIMIT first (state feed) answer
       → IfSome (state feed).remaining (λ bytes. bytes ≡ []) → (state feed).failures ≡ first.failures
       → (state feed).remaining ≡ remaining_after ((state feed).given - first.given) first.remaining
-      → CountsFile base state path file so_far old new answer
+      → HasTextWith base state path file (λ text. answer ≡ counted_on file so_far text) old new
   counted_file file asked first old new feed so_far answer at opened there fed ended kept stands =
       let all : (state feed).given - first.given ≡ (state feed).given = omega (arith, opened.given) in (
         fed.text,
@@ -50,8 +50,9 @@ module _ (base : List ℕ) {F T : Type 0} (state : F → FeedState) (path : T �
 
   -- the counts of files one after the other are the counts of all
   module _ (old m1 m2 m3 : List Opening) (blocks prec pcpsp : Result Counts TextFault) where
-    pub counted_three_files : (new : List Opening) → CountsFile base state path Blocks (Ok no_counts) old m1 blocks → CountsFile base state path Prec blocks m1 m2 prec
-        → CountsFile base state path Pcpsp prec m2 m3 pcpsp → new ≡ m3 ++ Unopened (path_of base Cpit) ∷ []
+    pub counted_three_files : (new : List Opening) → HasTextWith base state path Blocks (λ text. blocks ≡ counted_on Blocks (Ok no_counts) text) old m1
+        → HasTextWith base state path Prec (λ text. prec ≡ counted_on Prec blocks text) m1 m2
+        → HasTextWith base state path Pcpsp (λ text. pcpsp ≡ counted_on Pcpsp prec text) m2 m3 → new ≡ m3 ++ Unopened (path_of base Cpit) ∷ []
         → CountsAll base state path old new pcpsp
     counted_three_files new b p m gone =
         let texts : Texts = record { blocks = b.0; prec = p.0; pcpsp = m.0; cpit = None } in (
@@ -62,9 +63,10 @@ module _ (base : List ℕ) {F T : Type 0} (state : F → FeedState) (path : T �
               ),
         )
 
-    pub counted_four_files : (new : List Opening) (answer : Result Counts TextFault) → CountsFile base state path Blocks (Ok no_counts) old m1 blocks
-        → CountsFile base state path Prec blocks m1 m2 prec → CountsFile base state path Pcpsp prec m2 m3 pcpsp
-        → CountsFile base state path Cpit pcpsp m3 new answer → CountsAll base state path old new answer
+    pub counted_four_files : (new : List Opening) (answer : Result Counts TextFault) → HasTextWith base state path Blocks (λ text. blocks ≡ counted_on Blocks (Ok no_counts) text) old m1
+        → HasTextWith base state path Prec (λ text. prec ≡ counted_on Prec blocks text) m1 m2
+        → HasTextWith base state path Pcpsp (λ text. pcpsp ≡ counted_on Pcpsp prec text) m2 m3
+        → HasTextWith base state path Cpit (λ text. answer ≡ counted_on Cpit pcpsp text) m3 new → CountsAll base state path old new answer
     counted_four_files new answer b p m c =
         let texts : Texts = record { blocks = b.0; prec = p.0; pcpsp = m.0; cpit = Some c.0 } in (
           texts,

@@ -1,8 +1,10 @@
 //! The check of an instance's files.
 
-ghost use Rattle.std.specs.Prelude.{◌≡◌, ◌≢◌, ◌≤◌, ◌⊎◌, IfErr, IfOk, IfSome, OnErr, OnOk};
-ghost use Rattle.check_command.specs.Checked.{FailsIn, IsCheckStatus, IsFoundIn, IsFoundInOpenedFiles, IsMissing, IsNotAsked, ReportsFiles, ReportsOpenedFiles};
-ghost use Rattle.check_command.specs.inner.CheckSteps.{CountsAll, CountsFile, CountsIfThere};
+ghost use Rattle.std.specs.Prelude.{◌≡◌, ◌≢◌, ◌≤◌, ◌⊎◌, ◌++◌, [], ◌∷◌, MatchOption, IfErr, IfOk, IfSome, OnErr, OnOk};
+ghost use Rattle.check_command.specs.Checked.{FailsIn, IsCheckStatus, IsFoundIn, IsFoundInOpenedFiles, IsMissing, IsNotAsked, ReportsFiles, ReportsOpenedFiles, path_of};
+ghost use Rattle.check_command.specs.inner.CheckSteps.{CountsAll, HasTextWith};
+ghost use Rattle.check_command.specs.inner.CountSteps.{counted_on};
+ghost use Rattle.devices.specs.files.Opening.{Unopened};
 ghost use Rattle.refusals.specs.declared.refusal.Refusal.TheVariants.{OutOfMemory};
 ghost use Rattle.plan_parts.specs.declared.ranges.TheConstants.{MAX_BLOCKS};
 ghost use Rattle.command_io.specs.FaultLine.{IsDoneOrRefused};
@@ -121,9 +123,8 @@ fn count_file<O: Opener>(
 ) -> Result<Result<Counts, TextFault>, Refused>
     requires needed { file ≢ TextFile.Cpit }
     requires few { IfOk so_far (λ counts. counts.blocks ≤ MAX_BLOCKS) }
-    ensures counts { IfOk result
-        (CountsFile base.now O.Opened.state O.File.path file so_far (O.opened files.old)
-        (O.opened files.new)) }
+    ensures counts { IfOk result (λ answer. HasTextWith base.now O.Opened.state O.File.path file
+        (λ text. answer ≡ counted_on file so_far text) (O.opened files.old) (O.opened files.new)) }
     ensures few { IfOk result (λ answer. IfOk answer (λ counts. counts.blocks ≤ MAX_BLOCKS)) }
     ensures fault { IfErr result (λ refused. FailsIn base.now O.Opened.state O.File.path file
         (O.opened files.old) (O.opened files.new) refused
@@ -146,9 +147,10 @@ fn count_if_there<O: Opener>(
     so_far: Result<Counts, TextFault>,
 ) -> Result<Option<Result<Counts, TextFault>>, Refused>
     requires few { IfOk so_far (λ counts. counts.blocks ≤ MAX_BLOCKS) }
-    ensures counts { IfOk result
-        (CountsIfThere base.now O.Opened.state O.File.path file so_far (O.opened files.old)
-        (O.opened files.new)) }
+    ensures counts { IfOk result (λ found. MatchOption found
+        (O.opened files.new ≡ O.opened files.old ++ Unopened (path_of base.now file) ∷ [])
+        (λ answer. HasTextWith base.now O.Opened.state O.File.path file
+        (λ text. answer ≡ counted_on file so_far text) (O.opened files.old) (O.opened files.new))) }
     ensures few { IfOk result (λ found. IfSome found (λ answer. IfOk answer
         (λ counts. counts.blocks ≤ MAX_BLOCKS))) }
     ensures fault { IfErr result (λ refused. FailsIn base.now O.Opened.state O.File.path file

@@ -4,6 +4,8 @@ pub mod Pieces
 pub mod PlanFile
 pub mod PlanText
 pub mod Refused
+pub mod RunState
 pub mod Sections
+pub mod World
 pub mod WriteWhole
 pub mod ZoneFeeds

@@ -9,5 +9,6 @@ pub mod plan_file;
 pub mod plan_text;
 pub mod printing;
 pub mod refused;
+pub mod world;
 pub mod write_whole;
 pub mod zone_feeds;

@@ -1,6 +1,6 @@
 //! The program's errors: the words of the error's line, and the exit status.
 
-ghost use Rattle.std.specs.Prelude.{◌≡◌};
+ghost use Rattle.std.specs.Prelude.{◌≡◌, ◌≢◌};
 ghost use Rattle.refusals.specs.declared.refusal.Refusal.TheVariants.{OutOfMemory};
 ghost use Rattle.command_io.specs.Refused.{plan_refused, run_status, status_of, text_refused, unread};
 ghost use Rattle.command_io.specs.declared.refused.Refused.TheVariants.{Run};
@@ -51,7 +51,8 @@ impl Refused {
 
     /// Returns the exit status of the program.
     pub fn status(&self) -> u8
-        ensures { result ≡ status_of self.now }
+        ensures value { result ≡ status_of self.now }
+        ensures fails { result ≢ 0 }
     {
         match self {
             Refused::NotUtf8 => USAGE,
@@ -63,7 +64,8 @@ impl Refused {
 }
 
 fn run_status(refusal: &Refusal) -> u8
-    ensures { result ≡ run_status refusal.now }
+    ensures value { result ≡ run_status refusal.now }
+    ensures fails { result ≢ 0 }
 {
     match refusal {
         Refusal::Settings(_) => USAGE,

@@ -25,12 +25,11 @@ no_base rows none (Check base) found =
     let same : rows ≡ found.rows = ap rows_in found.is_check in
     let bad : None ≡ Some (string_bytes base) = sym none ∙ ap (first_of (codes "base")) same ∙ found.has_base in
     cc
-no_base rows none (Compile plan out settings zones) found = apart _ rows found.rows refl found.is_compile
+no_base rows none (Compile run) found = apart _ rows found.rows refl found.is_compile
 
 -- nor of `compile`, if values of a run are missing
 pub no_compile : (rows : List Row) → ((run : RunArguments) → FindsArguments rows run → ⊥) → (job : Job) → Finds (Some (codes "compile", rows)) job → ⊥
 no_compile rows none (Check base) found = apart _ found.rows rows found.is_check refl
-no_compile rows none (Compile plan out settings zones) found =
+no_compile rows none (Compile run) found =
     let same : found.rows ≡ rows = ap rows_in (sym found.is_compile) in
-    let run : RunArguments = record { plan = plan; out = out; settings = settings; zones = zones } in
     none run (subst (λ r. FindsArguments r run) same found.has_arguments)

@@ -100,7 +100,7 @@ pub record FindsCompile (found : Option (Text × List Row)) (run : RunArguments)
 -- the job has the values that clap found
 abbrev pub Finds : Option (Text × List Row) → Job → Type 0
 Finds found (Check base) = FindsCheck found (string_bytes base)
-Finds found (Compile plan out settings zones) = FindsCompile found (record { plan = plan; out = out; settings = settings; zones = zones })
+Finds found (Compile run) = FindsCompile found run
 
 -- the job has the values that clap finds in these arguments, which begin with the program's name
 unfoldable pub StatesJob : List Text → Job → Type 0

@@ -1,3 +1,4 @@
 pub mod CommandLine
+pub mod Shown
 pub mod ThinLine
 pub mod inner

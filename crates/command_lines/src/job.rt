@@ -1,27 +1,24 @@
 //! Jobs that the arguments of a command line state.
 
 ghost use Rattle.std.specs.Prelude.{◌≡◌, ◌↔◌, string_bytes, IsFalse, IsTrue, IfOk, OnErr};
+ghost use Rattle.command_lines.specs.Shown.{ShowsFault};
 ghost use Rattle.command_lines.specs.CommandLine.{AppendsText, IsEndedText, IsRefusal};
 
 use plan_parts::settings::Settings;
 use std::alloc::{AllocError, Global};
 use thiserror::Error;
 
+/// The exit status if the arguments are rejected.
+pub const USAGE: u8 = 2;
+
 /// A job of the program.
 #[derive(Debug, Drop, PartialEq, Eq)]
 pub enum Job {
     /// Compiles the plan in the file `plan` with the zone files `zones`, in order, and writes the files of the instance, whose
-    /// paths begin with `out`. There is at least one zone file.
-    Compile {
-        plan: String,
-        out: String,
-        settings: Settings,
-        zones: Vec<String>,
-    },
+    /// paths begin with `out`.
+    Compile(RunArguments),
     /// Reads the files of an instance, whose paths begin with `base`, and prints its counts.
-    Check {
-        base: String,
-    },
+    Check { base: String },
 }
 
 /// The values of a run in the arguments: the file of its plan, the base of its output, its settings, and its zone files in order.
@@ -66,6 +63,28 @@ impl From<clap::Error> for JobFault {
         }
         JobFault::Line(error)
     }
+}
+
+/// Appends what the program shows in place of a job, like `append_error`, and returns the exit status: `USAGE` if the arguments are
+/// rejected, else 0. If memory is refused, before or now, `text` and `lines` are unchanged.
+pub fn append_fault(
+    alloc: Global,
+    fault: &JobFault,
+    text: &mut Vec<u8>,
+    lines: &mut Vec<u8>,
+) -> Result<u8, AllocError>
+    ensures shown { IfOk result
+        (ShowsFault fault.now text.old.items text.new.items lines.old.items lines.new.items) }
+    ensures kept { OnErr result
+        ((text.new.items ≡ text.old.items) × (lines.new.items ≡ lines.old.items)) }
+{
+    let JobFault::Line(error) = fault else {
+        return Err(AllocError);
+    };
+    if append_error(alloc, error, text, lines)? {
+        return Ok(USAGE);
+    }
+    Ok(0)
 }
 
 /// Appends the text of an error of `clap`: to `lines` if the error rejects the arguments; else to `text`, since it is the help or

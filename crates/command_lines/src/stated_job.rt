@@ -6,7 +6,7 @@ ghost use Rattle.command_lines.specs.CommandLine.{Finds, IsNoMemoryLine, Refuses
 ghost use Rattle.command_lines.specs.inner.Commands.{FindsIfAny};
 
 use crate::command_line::command_line;
-use crate::job::{Job, JobFault, RunArguments};
+use crate::job::{Job, JobFault};
 use crate::run_arguments::run_arguments;
 use crate::stating::{Stating, stated};
 use clap::{ArgMatches, Command};
@@ -76,16 +76,5 @@ fn compile_job(alloc: Global, found: &ArgMatches<'_>) -> Result<Option<Job>, All
     let Some(run) = run_arguments(alloc, found)? else {
         return Ok(None);
     };
-    let RunArguments {
-        plan,
-        out,
-        settings,
-        zones,
-    } = run;
-    Ok(Some(Job::Compile {
-        plan,
-        out,
-        settings,
-        zones,
-    }))
+    Ok(Some(Job::Compile(run)))
 }

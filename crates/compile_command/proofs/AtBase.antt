@@ -9,42 +9,39 @@ use Rattle.compile_command.specs.BaseFiles.{AreThere, HasFile, IsNoCompileAt, Re
 use Rattle.compile_command.specs.Compile.{IsNoCompile, ReportsRows}
 use Rattle.pit_compile.specs.Sinks.{sink_of, sink_states}
 use Rattle.pit_compile.specs.declared.sinks.Sinks.{Sinks}
-use Rattle.command_io.specs.declared.refused.Refused.{Refused}
-use Rattle.plan_parts.specs.Plan.{PlanParts}
-use Rattle.plan_parts.specs.declared.formulas.formula.Formula.{Formula}
-use Rattle.plan_parts.specs.declared.settings.Settings.{Settings}
+use Rattle.command_io.specs.RunState.{Inputs, run_state}
+use Rattle.command_io.specs.World.{World}
 use Rattle.run_threads.specs.Starts.{StartsView}
+use Rattle.command_io.specs.declared.refused.Refused.{Refused}
 
-module _ (plan : PlanParts) (base : List ℕ) (zones : List (List ℕ)) (opened_old opened_new : List Opening) (starts_old starts_new : StartsView)
-    (old new : Sinks FileSinkView) (settings : Settings) where
-  -- each sink was begun, so its file exists
-  pub are_there : {F : Type 0} (path : F → List ℕ) (out_old out_new : List ℕ) → ((name : TextName) → (sink_of old name).path ≡ base_path base name)
-      → ((name : TextName) → HasFile path (sink_of new name))
-      → ReportsRows plan zones opened_old opened_new starts_old starts_new (sink_states state_with_path old) (sink_states state_with_path new) settings out_old out_new
-      → AreThere path base
-  are_there path out_old out_new placed has reported = λ name.
-      let text = reported.compiled.done.written name in
-      let it = has name text.begun in (it.0, it.1 ∙ text.before ∙ placed name)
+-- each sink was begun, so its file exists
+pub are_there : (base : List ℕ) (inputs : Inputs) (before after : Sinks FileSinkView) {F : Type 0} (path : F → List ℕ)
+    (opened_old opened_new : List Opening) (starts_old starts_new : StartsView) (text_old text_new : List ℕ)
+    → ((name : TextName) → (sink_of before name).path ≡ base_path base name) → ((name : TextName) → HasFile path (sink_of after name))
+    → ReportsRows inputs (run_state opened_old starts_old (sink_states state_with_path before))
+    (run_state opened_new starts_new (sink_states state_with_path after)) text_old text_new → AreThere path base
+are_there base inputs before after path opened_old opened_new starts_old starts_new text_old text_new placed has reported = λ name.
+    let text = reported.compiled.done.written name in
+    let it = has name text.begun in (it.0, it.1 ∙ text.before ∙ placed name)
 
-  pub reports_rows : (made_old made_new : List (List ℕ)) (reports : Bool) (out_old out_new : List ℕ)
-      → ((name : TextName) → sink_of old name ≡ unbegun reports (base_path base name)) → made_new ≡ made_old ++ base_paths base
-      → ReportsRows plan zones opened_old opened_new starts_old starts_new (sink_states state_with_path old) (sink_states state_with_path new) settings out_old out_new
-      → ReportsRowsAt plan base zones opened_old opened_new made_old made_new starts_old starts_new reports settings (Some new) out_old out_new
-  reports_rows made_old made_new reports out_old out_new fresh made h =
-      let first : sink_states state_with_path old ≡ unbegun_at reports base = fun_ext (λ name. ap state_with_path (fresh name)) in (
-        made,
-        subst (λ sinks. ReportsRows plan zones opened_old opened_new starts_old starts_new sinks (sink_states state_with_path new) settings out_old out_new) first h,
-      )
+module _ (base : List ℕ) (inputs : Inputs) (before after : Sinks FileSinkView) (old new : World)
+    (fresh : (name : TextName) → sink_of before name ≡ unbegun old.reports (base_path base name)) (made : new.made ≡ old.made ++ base_paths base) where
+  first : sink_states state_with_path before ≡ unbegun_at old.reports base
+  first = fun_ext (λ name. ap state_with_path (fresh name))
 
-  pub no_compile : {F : Type 0} (state : F → FeedState) (formulas : List Formula) (made_old made_new : List (List ℕ)) (reports : Bool) (why : Refused) → ((name : TextName) → sink_of old name ≡ unbegun reports (base_path base name))
-      → made_new ≡ made_old ++ base_paths base
-      → IsNoCompile plan zones opened_old opened_new starts_old starts_new (sink_states state_with_path old) (sink_states state_with_path new) state formulas settings
-      why
-      → IsNoCompileAt plan base zones opened_old opened_new made_old made_new starts_old starts_new reports state formulas settings (Some new)
-      why
-  no_compile state formulas made_old made_new reports why fresh made h =
-      let first : sink_states state_with_path old ≡ unbegun_at reports base = fun_ext (λ name. ap state_with_path (fresh name)) in (
-        made,
-        subst (λ sinks. IsNoCompile plan zones opened_old opened_new starts_old starts_new sinks (sink_states state_with_path new) state formulas
-            settings why) first h,
-      )
+  pub reports_rows : ReportsRows inputs (run_state old.opened old.starts (sink_states state_with_path before))
+      (run_state new.opened new.starts (sink_states state_with_path after)) old.text new.text → ReportsRowsAt base inputs (Some after) old new
+  reports_rows h = (
+    made,
+    subst (λ sinks. ReportsRows inputs (run_state old.opened old.starts sinks)
+        (run_state new.opened new.starts (sink_states state_with_path after)) old.text new.text) first h,
+  )
+
+  pub no_compile : {F : Type 0} (state : F → FeedState) (why : Refused)
+      → IsNoCompile inputs (run_state old.opened old.starts (sink_states state_with_path before))
+      (run_state new.opened new.starts (sink_states state_with_path after)) state why → IsNoCompileAt base inputs state (Some after) old new why
+  no_compile state why h = (
+    made,
+    subst (λ sinks. IsNoCompile inputs (run_state old.opened old.starts sinks)
+        (run_state new.opened new.starts (sink_states state_with_path after)) state why) first h,
+  )

@@ -1,7 +1,6 @@
 -- Why a compile fails: not all files could be opened; or the run on them failed; or memory was refused for the line of the rows.
 use Rattle.std.proofs.Common.{◌≡◌, ◌+◌, ℕ, List, Option, inl, inr, length, subst}
 use Rattle.devices.specs.feeds.FeedState.{FeedState, all_remaining}
-use Rattle.devices.specs.files.Opening.{Opening}
 use Rattle.devices.specs.sinks.SinkState.{SinkState}
 use Rattle.lane.specs.Whole.{GatheredView}
 use Rattle.minelib_lines.specs.declared.text_name.TextName.{TextName}
@@ -12,42 +11,42 @@ use Rattle.refusals.specs.declared.refusal.Refusal.TheVariants.{OutOfMemory, Set
 use Rattle.refusals.specs.declared.settings_fault.SettingsFault.{SettingsFault}
 use Rattle.pit_compile.specs.Starts.{AreStartsOf}
 use Rattle.run_threads.specs.Refusing.{HasFailed}
-use Rattle.run_threads.specs.Starts.{AreSpent, StartsView}
+use Rattle.run_threads.specs.Starts.{AreSpent}
 use Rattle.compile_command.specs.Compile.{IsNoCompile}
+use Rattle.command_io.specs.RunState.{Inputs, RunState}
 use Rattle.command_io.specs.ZoneFeeds.{AreNotOpened, AreOpened}
 use Rattle.command_io.specs.declared.refused.Refused.{Refused}
 use Rattle.command_io.specs.declared.refused.Refused.TheVariants.{Run}
-use Rattle.plan_parts.specs.declared.settings.Settings.{Settings as Chosen}
-use Rattle.plan_parts.specs.Plan.{PlanParts}
-use Rattle.plan_parts.specs.declared.formulas.formula.Formula.{Formula}
 
-module _ (plan : PlanParts) (paths : List (List ℕ)) (opened_old opened_new : List Opening) (starts_old starts_new : StartsView) (old new : TextName → SinkState)
-    {F : Type 0} (state : F → FeedState) (formulas : List Formula) (settings : Chosen) where
-  pub unopened_files : (why : Refused) → AreNotOpened opened_old opened_new paths why → new ≡ old → starts_new ≡ starts_old
-      → IsNoCompile plan paths opened_old opened_new starts_old starts_new old new state formulas settings why
+module _ (inputs : Inputs) (old new : RunState (TextName → SinkState)) {F : Type 0} (state : F → FeedState) where
+  pub unopened_files : (why : Refused) → AreNotOpened old.opened new.opened inputs.zones why → new.sinks ≡ old.sinks
+      → new.starts ≡ old.starts → IsNoCompile inputs old new state why
   unopened_files why h still unspent = inl (h, still, unspent)
 
   pub refused_run : (feeds : List F) (refusal : Refusal) (why : Refused)
-      → AreOpened opened_old opened_new paths (all_remaining state feeds) → why ≡ Run refusal
-      → ((kind : SettingsFault) → refusal ≡ Settings kind → IsSettingsFault plan (length (all_remaining state feeds)) formulas settings kind)
-      → IsRefused plan (all_remaining state feeds) (HasFailed state feeds) old new refusal
-      → AreStartsOf (settings.valuers + length (all_remaining state feeds)) starts_old starts_new refusal
-      → IsNoCompile plan paths opened_old opened_new starts_old starts_new old new state formulas settings why
+      → AreOpened old.opened new.opened inputs.zones (all_remaining state feeds) → why ≡ Run refusal
+      → ((kind : SettingsFault) → refusal ≡ Settings kind
+      → IsSettingsFault inputs.plan (length (all_remaining state feeds)) inputs.formulas inputs.settings kind)
+      → IsRefused inputs.plan (all_remaining state feeds) (HasFailed state feeds) old.sinks new.sinks refusal
+      → AreStartsOf (inputs.settings.valuers + length (all_remaining state feeds)) old.starts new.starts refusal
+      → IsNoCompile inputs old new state why
   refused_run feeds refusal why opened e invalid refused starts = inr (inl (
     refusal,
     e,
     record {
       feeds = feeds;
       opened = opened;
-      invalid = λ kind is. subst (λ n. IsSettingsFault plan n formulas settings kind) opened.each (invalid kind is);
+      invalid = λ kind is. subst (λ n. IsSettingsFault inputs.plan n inputs.formulas inputs.settings kind) opened.each (invalid kind is);
       refused = refused;
-      starts = subst (λ n. AreStartsOf (settings.valuers + n) starts_old starts_new refusal) opened.each starts;
+      starts = subst (λ n. AreStartsOf (inputs.settings.valuers + n) old.starts new.starts refusal) opened.each starts;
     },
   ))
 
-  pub refused_line : (remainders : List (Option (List ℕ))) (gathered : GatheredView) (why : Refused) → AreOpened opened_old opened_new paths remainders
-      → IsDone plan remainders settings.valuers settings.capacity old new gathered → AreSpent (settings.valuers + length remainders) starts_new → why ≡ Run OutOfMemory
-      → IsNoCompile plan paths opened_old opened_new starts_old starts_new old new state formulas settings why
+  pub refused_line : (remainders : List (Option (List ℕ))) (gathered : GatheredView) (why : Refused)
+      → AreOpened old.opened new.opened inputs.zones remainders
+      → IsDone inputs.plan remainders inputs.settings.valuers inputs.settings.capacity old.sinks new.sinks gathered
+      → AreSpent (inputs.settings.valuers + length remainders) new.starts → why ≡ Run OutOfMemory
+      → IsNoCompile inputs old new state why
   refused_line remainders gathered why opened done spent e = inr (inr (
     e,
     (
@@ -56,7 +55,7 @@ module _ (plan : PlanParts) (paths : List (List ℕ)) (opened_old opened_new : L
         remainders = remainders;
         opened = opened;
         done = done;
-        started = subst (λ n. AreSpent (settings.valuers + n) starts_new) opened.each spent;
+        started = subst (λ n. AreSpent (inputs.settings.valuers + n) new.starts) opened.each spent;
       },
     ),
   ))

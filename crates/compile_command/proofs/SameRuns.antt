@@ -5,6 +5,7 @@ use Rattle.std.specs.List.{sum_by}
 use Rattle.std.specs.Option.{is_some, option_map, unwrap_or}
 use Rattle.std.proofs.lemmas.Bool.{and_parts, cases_lt, eq-eqb, eqb-true, false≢true}
 use Rattle.std.proofs.lemmas.List.{append_cancel_left, length-map}
+use Rattle.command_io.specs.RunState.{Inputs, run_state}
 use Rattle.command_io.specs.ZoneFeeds.{AreOpened}
 use Rattle.compile_command.specs.Compile.{ReportsRows, rows_line}
 use Rattle.devices.specs.files.Opening.{Opening, Opened, all_opened}
@@ -15,6 +16,7 @@ use Rattle.minelib_lines.specs.declared.text_name.TextName.{TextName}
 use Rattle.minelib_writing.specs.Texts.{text_named}
 use Rattle.plan_parts.specs.Plan.{PlanParts}
 use Rattle.plan_parts.specs.declared.block.Block.{Block}
+use Rattle.plan_parts.specs.declared.formulas.formula.Formula.{Formula}
 use Rattle.plan_parts.specs.declared.settings.Settings.{Settings as Chosen}
 use Rattle.run_threads.specs.Starts.{StartsView}
 use Rattle.precedence.specs.Identifier.{is_same_place, IsFirstAgain}
@@ -71,12 +73,16 @@ same_remaining (path ∷ paths) (remaining ∷ one) (right ∷ other) h k e =
     ap (λ l. l ∷ one) (ap first_remaining e) ∙ ap (λ ls. right ∷ ls)
     (same_remaining paths one other (omega (arith, h)) (omega (arith, k)) (ap (drop 1) e))
 
-pub same_rows : (plan : PlanParts) (paths texts : List (List ℕ)) (opened now : List Opening) (starts spent begun ended : StartsView)
-    (old new again : TextName → SinkState) (one other : Chosen) (text text_one text_other : List ℕ) → length texts ≡ length paths
-    → now ≡ opened ++ all_opened paths (map Some texts) → ReportsRows plan paths opened now starts spent old new one text text_one
-    → ReportsRows plan paths opened now begun ended old again other text text_other
+pub same_rows : (inputs : Inputs) (formulas : List Formula) (settings : Chosen) (texts : List (List ℕ)) (opened now : List Opening)
+    (starts spent begun ended : StartsView) (old new again : TextName → SinkState) (text text_one text_other : List ℕ)
+    → length texts ≡ length inputs.zones → now ≡ opened ++ all_opened inputs.zones (map Some texts)
+    → ReportsRows inputs (run_state opened starts old) (run_state now spent new) text text_one
+    → ReportsRows (record inputs { formulas = formulas; settings = settings }) (run_state opened begun old) (run_state now ended again) text text_other
     → (text_one ≡ text_other) × ((name : TextName) → new name ≡ again name)
-same_rows plan paths texts opened now starts spent begun ended old new again one other text text_one text_other count is t u =
+same_rows inputs formulas other texts opened now starts spent begun ended old new again text text_one text_other count is t u =
+    let plan = inputs.plan in
+    let paths = inputs.zones in
+    let one = inputs.settings in
     let long : length (map Some texts) ≡ length paths = length-map texts Some ∙ count in
     let reported : (remainders : List (Option (List ℕ))) → AreOpened opened now paths remainders → remainders ≡ map Some texts =
     λ remainders h. same_remaining paths remainders (map Some texts) h.each long (append_cancel_left opened _ _ (sym h.opened ∙ is)) in

@@ -2,7 +2,6 @@
 use Rattle.std.specs.Prelude.{◌≡◌, ℕ, Bool, false, List, [], ◌++◌, map, Option, Some, None, IsTrue}
 use Rattle.devices.specs.feeds.FeedState.{FeedState}
 use Rattle.devices.specs.feeds.FileFeedView.{file_state}
-use Rattle.devices.specs.files.Opening.{Opening}
 use Rattle.devices.specs.sinks.FileSinkView.{FileSinkView, unbegun}
 use Rattle.devices.specs.sinks.SinkState.{SinkState}
 use Rattle.minelib_lines.specs.TextNames.{all_texts, ending_of}
@@ -13,14 +12,11 @@ use Rattle.refusals.specs.declared.refusal.Refusal.TheVariants.{OutOfMemory}
 use Rattle.pit_compile.specs.declared.running.TheConstants.{MOST_STARTS}
 use Rattle.pit_compile.specs.declared.sinks.Sinks.{Sinks}
 use Rattle.command_io.specs.FilePath.{path_to}
-use Rattle.command_io.specs.PlanFile.{IsPlanAt}
+use Rattle.command_io.specs.RunState.{Inputs, run_state}
+use Rattle.command_io.specs.World.{World}
 use Rattle.command_io.specs.declared.refused.Refused.{Refused}
 use Rattle.command_io.specs.declared.refused.Refused.TheVariants.{Run}
-use Rattle.plan_parts.specs.Plan.{PlanParts}
-use Rattle.plan_parts.specs.PlanFormulas.{formulas_of_plan}
-use Rattle.plan_parts.specs.declared.formulas.formula.Formula.{Formula}
-use Rattle.plan_parts.specs.declared.settings.Settings.{Settings}
-use Rattle.run_threads.specs.Starts.{none_spent, StartsView}
+use Rattle.run_threads.specs.Starts.{none_spent}
 
 -- the path of this text's file
 abbrev pub base_path : List ℕ → TextName → List ℕ
@@ -46,64 +42,45 @@ HasFile {F} path s = IsTrue s.begun → ((file : F) × (path file ≡ s.path))
 abbrev pub AreThere : {F : Type 0} → (F → List ℕ) → List ℕ → Type 0
 AreThere {F} path base = (name : TextName) → ((file : F) × (path file ≡ base_path base name))
 
--- for a compile of these zone files to the files of BASE: the openings, the slots and the starts, before and after, and whether
--- files report their content. A slot can create the file at one path, once
-module _ (plan : PlanParts) (base : List ℕ) (zones : List (List ℕ)) (opened_old opened_new : List Opening) (made_old made_new : List (List ℕ))
-    (starts_old starts_new : StartsView) (reports : Bool) where
+-- for a compile of these inputs to the files of BASE. A slot can create the file at one path, once
+module _ (base : List ℕ) (inputs : Inputs) where
   -- exactly one slot was made for each file of BASE, and the line of the rows was appended, for a compile into the sinks of these
   -- slots
-  abbrev pub ReportsRowsAt : Settings → Option (Sinks FileSinkView) → (out_old out_new : List ℕ) → Type 0
-  ReportsRowsAt settings None out_old out_new = ⊥
-  ReportsRowsAt settings (Some sinks) out_old out_new =
-      (made_new ≡ made_old ++ base_paths base)
-      × ReportsRows plan zones opened_old opened_new starts_old starts_new (unbegun_at reports base) (sink_states state_with_path sinks) settings out_old out_new
+  abbrev pub ReportsRowsAt : Option (Sinks FileSinkView) → (old new : World) → Type 0
+  ReportsRowsAt None old new = ⊥
+  ReportsRowsAt (Some sinks) old new =
+      (new.made ≡ old.made ++ base_paths base)
+      × ReportsRows inputs (run_state old.opened old.starts (unbegun_at old.reports base))
+      (run_state new.opened new.starts (sink_states state_with_path sinks)) old.text new.text
 
   -- by the states of feeds
   module _ {F : Type 0} (state : F → FeedState) where
     -- memory for the paths was refused, and nothing else was tried; or exactly the slots were made, and the compile into their
     -- sinks failed
-    abbrev pub IsNoCompileAt : List Formula → Settings → Option (Sinks FileSinkView) → Refused → Type 0
-    IsNoCompileAt formulas settings None refused =
-        (refused ≡ Run OutOfMemory) × (made_new ≡ made_old) × (opened_new ≡ opened_old) × (starts_new ≡ starts_old)
-    IsNoCompileAt formulas settings (Some sinks) refused =
-        (made_new ≡ made_old ++ base_paths base)
-        × IsNoCompile plan zones opened_old opened_new starts_old starts_new (unbegun_at reports base) (sink_states state_with_path sinks) state formulas
-        settings refused
+    abbrev pub IsNoCompileAt : Option (Sinks FileSinkView) → (old new : World) → Refused → Type 0
+    IsNoCompileAt None old new refused =
+        (refused ≡ Run OutOfMemory) × (new.made ≡ old.made) × (new.opened ≡ old.opened) × (new.starts ≡ old.starts)
+    IsNoCompileAt (Some sinks) old new refused =
+        (new.made ≡ old.made ++ base_paths base)
+        × IsNoCompile inputs (run_state old.opened old.starts (unbegun_at old.reports base))
+        (run_state new.opened new.starts (sink_states state_with_path sinks)) state refused
 
--- the same of the plan that the file at this path states, which was opened first, by the states of feeds
-pub record ReportsRowsFrom (path base : List ℕ) (zones : List (List ℕ)) (opened_old opened_new : List Opening) (made_old made_new : List (List ℕ))
-    (starts_old starts_new : StartsView) (reports : Bool) {F : Type 0} (state : F → FeedState) (settings : Settings)
-    (sinks : Option (Sinks FileSinkView)) (out_old out_new : List ℕ) : Type 0 where
-  pub plan : PlanParts
-  pub between : List Opening
-  pub read : IsPlanAt state path opened_old between plan
-  pub reported : ReportsRowsAt plan base zones between opened_new made_old made_new starts_old starts_new reports settings sinks out_old out_new
+-- a system before a command: no file was requested, no slot was made, and no start was spent
+abbrev pub system_world : (text lines : List ℕ) → World
+system_world text lines = record { reports = false; opened = []; made = []; starts = none_spent MOST_STARTS; text = text; lines = lines }
 
--- why it is not: the plan that the file at this path states, which was opened first, is not compiled
-pub record IsNoCompileFrom (path base : List ℕ) (zones : List (List ℕ)) (opened_old opened_new : List Opening) (made_old made_new : List (List ℕ))
-    (starts_old starts_new : StartsView) (reports : Bool) {F : Type 0} (state : F → FeedState) (settings : Settings)
-    (sinks : Option (Sinks FileSinkView)) (refused : Refused) : Type 0 where
-  pub plan : PlanParts
-  pub between : List Opening
-  pub read : IsPlanAt state path opened_old between plan
-  pub why : IsNoCompileAt plan base zones between opened_new made_old made_new starts_old starts_new reports state (formulas_of_plan plan) settings
-      sinks refused
-
--- the line of the rows was appended, for the files of a system, none of which was opened or made before, and by starts none of
--- which was spent
-pub record ReportsRowsOfFiles (plan : PlanParts) (base : List ℕ) (zones : List (List ℕ)) (settings : Settings) (out_old out_new : List ℕ) : Type 0 where
-  pub opened : List Opening
-  pub made : List (List ℕ)
-  pub starts : StartsView
+-- the line of the rows was appended, for the files of a system
+pub record ReportsRowsOfFiles (base : List ℕ) (inputs : Inputs) (text_old text_new : List ℕ) : Type 0 where
+  pub lines : List ℕ
+  pub new : World
   pub sinks : Option (Sinks FileSinkView)
-  pub reported : ReportsRowsAt plan base zones [] opened [] made (none_spent MOST_STARTS) starts false settings sinks out_old out_new
+  pub text : new.text ≡ text_new
+  pub reported : ReportsRowsAt base inputs sinks (system_world text_old lines) new
 
 -- why such files are not compiled
-pub record IsNoCompileOfFiles (plan : PlanParts) (base : List ℕ) (zones : List (List ℕ)) (formulas : List Formula) (settings : Settings)
-    (refused : Refused) : Type 0 where
-  pub opened : List Opening
-  pub made : List (List ℕ)
-  pub starts : StartsView
+pub record IsNoCompileOfFiles (base : List ℕ) (inputs : Inputs) (refused : Refused) : Type 0 where
+  pub text : List ℕ
+  pub lines : List ℕ
+  pub new : World
   pub sinks : Option (Sinks FileSinkView)
-  pub why : IsNoCompileAt plan base zones [] opened [] made (none_spent MOST_STARTS) starts false file_state formulas settings
-      sinks refused
+  pub why : IsNoCompileAt base inputs file_state sinks (system_world text lines) new refused

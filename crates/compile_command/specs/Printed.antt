@@ -3,6 +3,7 @@ use Rattle.std.specs.Prelude.{◌≡◌, ℕ, ◌+◌, ◌⊎◌, List, ◌++◌
 use Rattle.devices.specs.feeds.FeedState.{FeedState}
 use Rattle.command_io.specs.Pieces.{PiecesView}
 use Rattle.command_io.specs.Sections.{printed}
+use Rattle.command_io.specs.World.{World}
 use Rattle.command_io.specs.declared.refused.Refused.{Refused}
 use Rattle.command_io.specs.declared.refused.Refused.TheVariants.{Run}
 use Rattle.pit_compile.specs.ZoneFiles.{instance_from}
@@ -43,16 +44,16 @@ IsNoPipe plan formulas zones old new refused =
 -- of an input, by the state of its feed before and now
 module _ (input_old input_new : FeedState) where
   -- it was read to its end, and the print of its model was appended; a thread ran for each valuer and zone file
-  abbrev pub PrintsInput : StartsView → (out_old out_new : List ℕ) → Type 0
-  PrintsInput starts out_old out_new =
+  abbrev pub PrintsInput : (old new : World) → Type 0
+  PrintsInput old new =
       (plan : Plan) × (pieces : PiecesView) × IsRead input_old input_new plan pieces
-      × IsPrinted plan pieces.zones out_old out_new × AreSpent (4 + length pieces.zones) starts
+      × IsPrinted plan pieces.zones old.text new.text × AreSpent (4 + length pieces.zones) new.starts
 
   -- it was read to its end, and this is why nothing is printed for it
-  abbrev pub IsNotPrinted : (old new : StartsView) → Refused → Type 0
+  abbrev pub IsNotPrinted : (old new : World) → Refused → Type 0
   IsNotPrinted old new refused =
       (plan : Plan) × (pieces : PiecesView) × IsRead input_old input_new plan pieces
-      × IsNoPipe plan (formulas_of_plan plan) pieces.zones old new refused
+      × IsNoPipe plan (formulas_of_plan plan) pieces.zones old.starts new.starts refused
 
   -- why nothing is done with it: it has no model; or it has one, and memory was refused
   abbrev pub IsNoInput : Refused → Type 0

@@ -3,15 +3,19 @@
 ghost use Rattle.std.specs.Prelude.{◌≡◌, ◌++◌, map, string_bytes, IfErr, OnOk, OnErr};
 ghost use Rattle.pit_compile.specs.Sinks.{sink_states};
 ghost use Rattle.command_io.specs.FaultLine.{IsDoneOrRefused};
+ghost use Rattle.command_io.specs.RunState.{Inputs as AnInputs, run_state};
 ghost use Rattle.plan_parts.specs.Destinations.{formulas_of};
 ghost use Rattle.run_threads.specs.Starts.{none_spent, AreSettled};
-ghost use Rattle.compile_command.specs.BaseFiles.{AreThere, IsNoCompileOfFiles, ReportsRowsOfFiles};
+ghost use Rattle.command_io.specs.World.{CommandEnds, World as AWorld};
+ghost use Rattle.compile_command.specs.BaseFiles.{AreThere, IsNoCompileAt, IsNoCompileOfFiles, ReportsRowsAt, ReportsRowsOfFiles};
 ghost use Rattle.compile_command.specs.Compile.{IsNoCompile, ReportsRows, rows_line};
 
-use crate::compile_at::compile_at;
+use crate::compile_at::{Ended, compile_at};
 use command_io::refused::Refused;
+use command_io::world::World;
 use command_io::zone_feeds::open_all;
 use devices::files::file_access::AtPath;
+use devices::files::file_slot::FileSlots;
 use devices::files::opener::Opener;
 use devices::files::system_files::{SystemFile, SystemFiles};
 use devices::files::system_slots::SystemSlots;
@@ -22,6 +26,7 @@ use pit_compile::{MOST_STARTS, Starts, run_with_starts};
 use pit_model::destination::Destination;
 use pit_model::plan::Plan;
 use std::alloc::{AllocError, Global};
+use std::mem;
 use std::rt::Files;
 use std::sync::Wait;
 use std::thread::Threads;
@@ -55,15 +60,22 @@ pub fn compile_into<R: Threads + Wait + Sync, O: Opener, S: Sink>(
     out: &mut Vec<u8>,
 ) -> Result<(), Refused>
     requires unspent { starts.old ≡ none_spent starts.old.allowed }
-    ensures done { let reported = sink_states S.state in
-        OnOk result (ReportsRows plan.now (map string_bytes zones.now) (O.opened files.old)
-        (O.opened files.new) starts.old starts.new (reported sinks.old) (reported sinks.new)
-        settings out.old.items out.new.items) }
+    ensures done { OnOk result (ReportsRows (record {
+      plan = plan.now;
+      formulas = formulas_of destinations.now;
+      zones = map string_bytes zones.now;
+      settings = settings;
+    }) (run_state (O.opened files.old) starts.old (sink_states S.state sinks.old))
+        (run_state (O.opened files.new) starts.new (sink_states S.state sinks.new))
+        out.old.items out.new.items) }
     ensures kept { OnErr result (out.new.items ≡ out.old.items) }
-    ensures refused { let reported = sink_states S.state in
-        IfErr result (IsNoCompile plan.now (map string_bytes zones.now) (O.opened files.old)
-        (O.opened files.new) starts.old starts.new (reported sinks.old) (reported sinks.new) O.Opened.state
-        (formulas_of destinations.now) settings) }
+    ensures refused { IfErr result (IsNoCompile (record {
+      plan = plan.now;
+      formulas = formulas_of destinations.now;
+      zones = map string_bytes zones.now;
+      settings = settings;
+    }) (run_state (O.opened files.old) starts.old (sink_states S.state sinks.old))
+        (run_state (O.opened files.new) starts.new (sink_states S.state sinks.new)) O.Opened.state) }
     ensures settled { AreSettled starts.old starts.new }
 {
     let feeds = open_all(alloc, zones, files)?;
@@ -93,27 +105,77 @@ pub fn compile_files<R: Files + Threads + Wait + Sync>(
 ) -> u8
 where
     R::File: Send,
-    ensures ends { IsDoneOrRefused
-        (ReportsRowsOfFiles plan.now base.now (map string_bytes zones.now) settings)
-        (IsNoCompileOfFiles plan.now base.now (map string_bytes zones.now)
-        (formulas_of destinations.now) settings)
+    ensures ends { let inputs : AnInputs = record {
+      plan = plan.now;
+      formulas = formulas_of destinations.now;
+      zones = map string_bytes zones.now;
+      settings = settings;
+    } in
+        IsDoneOrRefused (ReportsRowsOfFiles base.now inputs) (IsNoCompileOfFiles base.now inputs)
         out.old.items out.new.items err.old.items err.new.items result }
     ensures there { result ≡ 0 → AreThere (⟦<SystemFile<R::File> as AtPath>⟧.path) base.now }
 {
-    let ended = compile_at(
+    let ended = compile_in(
         alloc,
-        &mut SystemFiles::new(rt),
-        &mut SystemSlots::new(rt),
+        SystemFiles::new(rt),
+        SystemSlots::new(rt),
+        Starts::new(rt, MOST_STARTS),
         plan,
         destinations,
         settings,
-        &mut Starts::new(rt, MOST_STARTS),
         base,
         zones,
         out,
         err,
     );
     ended.status
+}
+
+// Does what `compile_at` does in a world of these files, slots and starts, with this text and these lines.
+fn compile_in<R: Threads + Wait + Sync, O: Opener + Drop, F: FileSlots + Drop>(
+    alloc: Global,
+    files: O,
+    slots: F,
+    starts: Starts<'_, R>,
+    plan: &Plan,
+    destinations: &[Destination],
+    settings: Settings,
+    base: &str,
+    zones: &[String],
+    out: &mut Vec<u8>,
+    err: &mut Vec<u8>,
+) -> Ended<F::Slot>
+    requires unspent { starts ≡ none_spent starts.allowed }
+    ensures ends { let inputs : AnInputs = record {
+      plan = plan.now;
+      formulas = formulas_of destinations.now;
+      zones = map string_bytes zones.now;
+      settings = settings;
+    } in
+        let old : AWorld = record {
+          reports = F.Slot.reports;
+          opened = O.opened files;
+          made = F.made slots;
+          starts = starts.entry;
+          text = out.old.items;
+          lines = err.old.items;
+        } in
+        (new : AWorld) × (new.text ≡ out.new.items) × (new.lines ≡ err.new.items)
+        × CommandEnds (ReportsRowsAt base.now inputs result.sinks)
+        (IsNoCompileAt base.now inputs O.Opened.state result.sinks) old new result.status }
+    ensures there { result.status ≡ 0 → AreThere F.Slot.File.path base.now }
+{
+    let mut world = World {
+        files,
+        slots,
+        starts,
+        text: mem::replace(out, Vec::new(alloc)),
+        lines: mem::replace(err, Vec::new(alloc)),
+    };
+    let ended = compile_at(alloc, plan, destinations, settings, base, zones, &mut world);
+    *out = mem::replace(&mut world.text, Vec::new(alloc));
+    *err = mem::replace(&mut world.lines, Vec::new(alloc));
+    ended
 }
 
 // Appends the line with this number of rows to `out`. If memory is refused, `out` is unchanged.

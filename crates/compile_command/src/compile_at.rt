@@ -5,7 +5,8 @@ ghost use Rattle.minelib_lines.specs.declared.text_name.TextName.{TextName as AN
 ghost use Rattle.compile_command.specs.BaseFiles.{AreThere, HasFile, IsNoCompileAt, ReportsRowsAt};
 ghost use Rattle.compile_command.specs.Compile.{IsNoCompile, ReportsRows};
 ghost use Rattle.pit_compile.specs.Sinks.{sink_of, sink_states};
-ghost use Rattle.command_io.specs.FaultLine.{IsDoneOrRefused};
+ghost use Rattle.command_io.specs.RunState.{Inputs as AnInputs, run_state};
+ghost use Rattle.command_io.specs.World.{CommandEnds};
 ghost use Rattle.plan_parts.specs.Destinations.{formulas_of};
 ghost use Rattle.run_threads.specs.Starts.{none_spent, AreSettled};
 
@@ -14,10 +15,10 @@ use crate::instance_files::sinks_of;
 use crate::placed_sink::PlacedSink;
 use command_io::refused::Refused;
 use command_io::refused::fault_line::report;
+use command_io::world::World;
 use devices::files::file_slot::{FileSlot, FileSlots};
 use devices::files::opener::Opener;
 use devices::sinks::sink::Sink;
-use pit_compile::Starts;
 use pit_compile::settings::Settings;
 use pit_compile::sinks::Sinks;
 use pit_model::destination::Destination;
@@ -38,53 +39,47 @@ pub struct Ended<P: FileSlot> {
 /// Compiles the zone files at these paths, like `compile_into`, into sinks for the files of BASE: `BASE.blocks` and so on, which
 /// replace existing files. Makes exactly one slot for each. Returns the end of the task.
 ///
-/// With the status 0 it appended the line of the rows to `out`, else the line of the error to `err`. At most one of the two grows.
-/// If memory is refused, the status is 4, and both are unchanged; if it is refused for the paths, there are no sinks, and nothing
-/// was opened, made or started.
-pub fn compile_at<R: Threads + Wait + Sync, O: Opener, F: FileSlots>(
+/// With the status 0 it appended the line of the rows to the text, else the line of the error to the lines. At most one of the two
+/// grows. If memory is refused, the status is 4, and both are unchanged; if it is refused for the paths, there are no sinks, and
+/// nothing was opened, made or started.
+pub fn compile_at<R: Threads + Wait + Sync, O: Opener + Drop, F: FileSlots + Drop>(
     alloc: Global,
-    files: &mut O,
-    slots: &mut F,
     plan: &Plan,
     destinations: &[Destination],
     settings: Settings,
-    starts: &mut Starts<'_, R>,
     base: &str,
     zones: &[String],
-    out: &mut Vec<u8>,
-    err: &mut Vec<u8>,
+    world: &mut World<'_, O, F, R>,
 ) -> Ended<F::Slot>
-    requires unspent { starts.old ≡ none_spent starts.old.allowed }
-    ensures ends { IsDoneOrRefused (ReportsRowsAt plan.now base.now (map string_bytes zones.now)
-        (O.opened files.old) (O.opened files.new) (F.made slots.old) (F.made slots.new) starts.old
-        starts.new F.Slot.reports settings result.sinks) (IsNoCompileAt plan.now base.now
-        (map string_bytes zones.now) (O.opened files.old) (O.opened files.new) (F.made slots.old)
-        (F.made slots.new) starts.old starts.new F.Slot.reports O.Opened.state
-        (formulas_of destinations.now) settings result.sinks)
-        out.old.items out.new.items err.old.items err.new.items result.status }
+    requires unspent { world.old.starts ≡ none_spent world.old.starts.allowed }
+    ensures ends { let inputs : AnInputs = record {
+      plan = plan.now;
+      formulas = formulas_of destinations.now;
+      zones = map string_bytes zones.now;
+      settings = settings;
+    } in
+        CommandEnds (ReportsRowsAt base.now inputs result.sinks)
+        (IsNoCompileAt base.now inputs O.Opened.state result.sinks) world.old world.new result.status }
     ensures there { result.status ≡ 0 → AreThere F.Slot.File.path base.now }
-    ensures settled { AreSettled starts.old starts.new }
+    ensures settled { AreSettled world.old.starts world.new.starts }
 {
-    let mut sinks = match sinks_of(slots, alloc, base) {
+    let mut sinks = match sinks_of(&mut world.slots, alloc, base) {
         Ok(sinks) => sinks,
         Err(refusal) => {
             return Ended {
-                status: report(alloc, &Refused::from(refusal), err),
+                status: report(alloc, &Refused::from(refusal), &mut world.lines),
                 sinks: None,
             };
         }
     };
     let status = compile_with(
         alloc,
-        files,
-        &mut sinks,
         plan,
         destinations,
         settings,
-        starts,
         zones,
-        out,
-        err,
+        &mut sinks,
+        world,
     );
     show_all(&sinks);
     Ended {
@@ -93,43 +88,47 @@ pub fn compile_at<R: Threads + Wait + Sync, O: Opener, F: FileSlots>(
     }
 }
 
-// Compiles like `compile_into`, and returns the exit status. With the status 0 it appended the line of the rows to `out`, else the
-// line of the error to `err`.
-fn compile_with<R: Threads + Wait + Sync, O: Opener, S: Sink>(
+// Compiles like `compile_into`, and returns the exit status. With the status 0 it appended the line of the rows to the text, else the
+// line of the error to the lines. It makes no slot.
+fn compile_with<R: Threads + Wait + Sync, O: Opener + Drop, F: FileSlots + Drop, S: Sink>(
     alloc: Global,
-    files: &mut O,
-    sinks: &mut Sinks<S>,
     plan: &Plan,
     destinations: &[Destination],
     settings: Settings,
-    starts: &mut Starts<'_, R>,
     zones: &[String],
-    out: &mut Vec<u8>,
-    err: &mut Vec<u8>,
+    sinks: &mut Sinks<S>,
+    world: &mut World<'_, O, F, R>,
 ) -> u8
-    requires unspent { starts.old ≡ none_spent starts.old.allowed }
-    ensures ends { let reported = sink_states S.state in
-        IsDoneOrRefused (ReportsRows plan.now (map string_bytes zones.now) (O.opened files.old)
-        (O.opened files.new) starts.old starts.new (reported sinks.old) (reported sinks.new) settings)
-        (IsNoCompile plan.now (map string_bytes zones.now) (O.opened files.old)
-        (O.opened files.new) starts.old starts.new (reported sinks.old) (reported sinks.new) O.Opened.state
-        (formulas_of destinations.now) settings)
-        out.old.items out.new.items err.old.items err.new.items result }
-    ensures settled { AreSettled starts.old starts.new }
+    requires unspent { world.old.starts ≡ none_spent world.old.starts.allowed }
+    ensures ends { let inputs : AnInputs = record {
+      plan = plan.now;
+      formulas = formulas_of destinations.now;
+      zones = map string_bytes zones.now;
+      settings = settings;
+    } in
+        CommandEnds (λ old new. ReportsRows inputs
+        (run_state old.opened old.starts (sink_states S.state sinks.old))
+        (run_state new.opened new.starts (sink_states S.state sinks.new)) old.text new.text)
+        (λ old new. IsNoCompile inputs
+        (run_state old.opened old.starts (sink_states S.state sinks.old))
+        (run_state new.opened new.starts (sink_states S.state sinks.new)) O.Opened.state)
+        world.old world.new result }
+    ensures made { world.new.made ≡ world.old.made }
+    ensures settled { AreSettled world.old.starts world.new.starts }
 {
     match compile_into(
         alloc,
-        files,
+        &mut world.files,
         sinks,
         plan,
         destinations,
         settings,
-        starts,
+        &mut world.starts,
         zones,
-        out,
+        &mut world.text,
     ) {
         Ok(()) => 0,
-        Err(refused) => report(alloc, &refused, err),
+        Err(refused) => report(alloc, &refused, &mut world.lines),
     }
 }
 

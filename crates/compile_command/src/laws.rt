@@ -2,6 +2,7 @@
 
 ghost use Rattle.std.specs.Prelude.{◌≡◌, ◌++◌, ℕ, List, Some, length, map};
 ghost use Rattle.compile_command.specs.Compile.{ReportsRows};
+ghost use Rattle.command_io.specs.RunState.{Inputs, run_state};
 ghost use Rattle.devices.specs.files.Opening.{Opening as AnOpening, all_opened};
 ghost use Rattle.devices.specs.sinks.SinkState.{SinkState};
 ghost use Rattle.lane.specs.Whole.{GatheredView};
@@ -9,6 +10,7 @@ ghost use Rattle.minelib_lines.specs.declared.text_name.TextName.{TextName as AN
 ghost use Rattle.pit_compile.specs.Run.{IsDone};
 ghost use Rattle.pit_compile.specs.ZoneFiles.{IsVerdict};
 ghost use Rattle.plan_parts.specs.Plan.{PlanParts};
+ghost use Rattle.plan_parts.specs.declared.formulas.formula.Formula.{Formula};
 ghost use Rattle.plan_parts.specs.declared.settings.Settings.{Settings};
 ghost use Rattle.refusals.specs.declared.refusal.Refusal.{Refusal as ARefusal};
 ghost use Rattle.run_threads.specs.Starts.{StartsView};
@@ -27,12 +29,14 @@ pub fn runs_of_the_same_files_agree()
         → IsDone plan (map Some texts) valuers capacity old new g
         → IsDone plan (map Some texts) others place old again h
         → (g.sent ≡ h.sent) × ((name : AName) → new name ≡ again name) }
-    ensures compiled { (plan : PlanParts) (paths texts : List (List ℕ)) (opened now : List AnOpening)
+    ensures compiled { (inputs : Inputs) (formulas : List Formula) (settings : Settings)
+        (texts : List (List ℕ)) (opened now : List AnOpening)
         (starts spent begun ended : StartsView) (old new again : AName → SinkState)
-        (one other : Settings) (text text_one text_other : List ℕ)
-        → length texts ≡ length paths → now ≡ opened ++ all_opened paths (map Some texts)
-        → ReportsRows plan paths opened now starts spent old new one text text_one
-        → ReportsRows plan paths opened now begun ended old again other text text_other
+        (text text_one text_other : List ℕ) → length texts ≡ length inputs.zones
+        → now ≡ opened ++ all_opened inputs.zones (map Some texts)
+        → ReportsRows inputs (run_state opened starts old) (run_state now spent new) text text_one
+        → ReportsRows (record inputs { formulas = formulas; settings = settings })
+        (run_state opened begun old) (run_state now ended again) text text_other
         → (text_one ≡ text_other) × ((name : AName) → new name ≡ again name) }
     ensures refused { (plan : PlanParts) (texts : List (List ℕ)) (one other : ARefusal)
         → IsVerdict plan (map Some texts) one → IsVerdict plan (map Some texts) other

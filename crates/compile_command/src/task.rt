@@ -2,7 +2,7 @@
 
 ghost use Rattle.std.specs.Prelude.{◌≡◌, ◌+◌, length, IfErr, OnErr, OnOk};
 ghost use Rattle.plan_parts.specs.Destinations.{formulas_of};
-ghost use Rattle.command_io.specs.FaultLine.{IsDoneOrRefused};
+ghost use Rattle.command_io.specs.World.{CommandEnds};
 ghost use Rattle.run_threads.specs.Starts.{none_spent, AreSettled, AreSpent};
 ghost use Rattle.compile_command.specs.Printed.{IsNoPipe, IsPrinted};
 ghost use Rattle.compile_command.specs.Task.{IsNoTask, IsTaskDone, plan_in};
@@ -12,6 +12,7 @@ use crate::model::Model;
 use crate::pipe_form::pipe_with_starts;
 use command_io::refused::Refused;
 use command_io::refused::fault_line::report;
+use command_io::world::World;
 use devices::files::file_slot::FileSlots;
 use devices::files::opener::Opener;
 use pit_compile::Starts;
@@ -47,32 +48,31 @@ impl Task {
         }
     }
 
-    /// Compiles the model with these destinations, and returns the end of the task. With the status 0 it appends the text for
-    /// standard output to `text`, else the line for standard error to `lines`. Only a task with files opens files and makes slots.
-    pub fn run<R: Threads + Wait + Sync, O: Opener, F: FileSlots>(
+    /// Compiles the model with these destinations, and returns the end of the task. With the status 0 it appends the output to the
+    /// text, else the line of the error to the lines. Only a task with files opens files and makes slots.
+    pub fn run<R: Threads + Wait + Sync, O: Opener + Drop, F: FileSlots + Drop>(
         &self,
         alloc: Global,
-        files: &mut O,
-        slots: &mut F,
         destinations: &[Destination],
-        starts: &mut Starts<'_, R>,
-        text: &mut Vec<u8>,
-        lines: &mut Vec<u8>,
+        world: &mut World<'_, O, F, R>,
     ) -> Ended<F::Slot>
-        requires unspent { starts.old ≡ none_spent starts.old.allowed }
-        ensures ends { IsDoneOrRefused (IsTaskDone (O.opened files.old) (O.opened files.new)
-            (F.made slots.old) (F.made slots.new) starts.old starts.new F.Slot.reports self.now
-            result.sinks) (IsNoTask (O.opened files.old) (O.opened files.new) (F.made slots.old)
-            (F.made slots.new) starts.old starts.new F.Slot.reports O.Opened.state self.now
-            (formulas_of destinations.now) result.sinks)
-            text.old.items text.new.items lines.old.items lines.new.items result.status }
-        ensures settled { AreSettled starts.old starts.new }
+        requires unspent { world.old.starts ≡ none_spent world.old.starts.allowed }
+        ensures ends { let formulas = formulas_of destinations.now in
+            CommandEnds (IsTaskDone formulas self.now result.sinks)
+            (IsNoTask formulas O.Opened.state self.now result.sinks) world.old world.new result.status }
+        ensures settled { AreSettled world.old.starts world.new.starts }
     {
         match self {
             Task::Pipe(model) => {
-                let status = match run_pipe(alloc, model, destinations, starts, text) {
+                let status = match run_pipe(
+                    alloc,
+                    model,
+                    destinations,
+                    &mut world.starts,
+                    &mut world.text,
+                ) {
                     Ok(()) => 0,
-                    Err(refused) => report(alloc, &refused, lines),
+                    Err(refused) => report(alloc, &refused, &mut world.lines),
                 };
                 Ended {
                     status,
@@ -86,16 +86,12 @@ impl Task {
                 zones,
             } => compile_at(
                 alloc,
-                files,
-                slots,
                 plan,
                 destinations,
                 *settings,
-                starts,
                 base.as_str(),
                 zones.as_slice(),
-                text,
-                lines,
+                world,
             ),
         }
     }

@@ -5,12 +5,12 @@
 //! counts.
 #![tactic(auto)]
 
-ghost use Rattle.std.specs.Prelude.{◌≡◌, map, string_bytes, IfErr, IfOk, OnErr};
-ghost use Rattle.command_io.specs.FaultLine.{IsDoneOrRefused};
+ghost use Rattle.std.specs.Prelude.{◌≡◌, string_bytes, IfErr, IfOk, OnErr};
 ghost use Rattle.command_io.specs.PlanFile.{IsNotBegun};
-ghost use Rattle.compile_command.specs.BaseFiles.{IsNoCompileFrom, ReportsRowsFrom};
+ghost use Rattle.command_io.specs.World.{CommandEnds};
 ghost use Rattle.compile_command.specs.Printed.{IsNoInput, IsNotPrinted, PrintsInput};
 ghost use Rattle.compile_command.specs.Task.{IsNoTask, IsTaskDone, plan_in};
+ghost use Rattle.pitc.specs.Jobs.{CompilesFrom, IsNoCompileFrom};
 ghost use Rattle.plan_parts.specs.PlanFormulas.{formulas_of_plan};
 ghost use Rattle.plan_parts.specs.formulas.Formula.{IsFormulaInRange};
 ghost use Rattle.plan_parts.specs.formulas.Worth.{worth};
@@ -21,8 +21,9 @@ use command_io::arguments::arguments_of;
 use command_io::plan_file::read_plan_file;
 use command_io::refused::Refused;
 use command_io::refused::fault_line::report;
-use command_io::refused::status::{USAGE, finish};
-use command_lines::job::{Job, JobFault, append_error};
+use command_io::refused::status::finish;
+use command_io::world::World;
+use command_lines::job::{Job, RunArguments, append_fault};
 use command_lines::stated_job::job;
 use compile_command::compile_at::Ended;
 use compile_command::model::read_model;
@@ -33,169 +34,173 @@ use devices::files::file_slot::FileSlots;
 use devices::files::opener::Opener;
 use devices::files::system_files::SystemFiles;
 use devices::files::system_slots::SystemSlots;
+use devices::sinks::sink::Sink;
 use devices::sinks::write_sink::WriteSink;
 use pit_compile::{MOST_STARTS, Starts};
 use pit_model::block::Block;
 use pit_model::destination::{Destination, Valuer};
-use plan_parts::settings::Settings;
-use std::alloc::{Alloc, AllocError, Global};
+use std::alloc::{AllocError, Global};
 use std::env;
-use std::io::Input;
 use std::process::ExitCode;
-use std::rt::{Env, Files};
 use std::sync::Wait;
 use std::thread::Threads;
 
 fn main(rt: HostRuntime) -> ExitCode {
     let alloc = rt.alloc();
-    let mut text = Vec::new(alloc);
-    let mut lines = Vec::new(alloc);
-    let mut starts = Starts::new(&rt, MOST_STARTS);
-    let status = match work(&rt, alloc, &mut starts, &mut text, &mut lines) {
-        Ok(status) => status,
-        Err(refused) => report(alloc, &refused, &mut lines),
-    };
-    finish(
-        &mut WriteSink::new(rt.stdout()),
-        &mut WriteSink::new(rt.stderr()),
-        status,
-        text.as_slice(),
-        lines.as_slice(),
+    program(
+        alloc,
+        arguments_of(alloc, env::args(&rt)),
+        ReadFeed::new(rt.stdin()),
+        SystemFiles::new(&rt),
+        SystemSlots::new(&rt),
+        Starts::new(&rt, MOST_STARTS),
+        WriteSink::new(rt.stdout()),
+        WriteSink::new(rt.stderr()),
     )
 }
 
-// Runs the job that the arguments state, and returns the exit status. Here the arguments, the input and the system's files go to
-// steps whose contracts state what they do with them; none of these steps has the runtime.
-fn work<R: Alloc<A = Global> + Env + Files + Input, T: Threads + Wait + Sync>(
-    rt: &R,
+// Runs the program in a world of these files, slots and starts, and prints what `work` leaves there.
+fn program<
+    I: Feed + Drop,
+    O: Opener + Drop,
+    F: FileSlots + Drop,
+    T: Threads + Wait + Sync,
+    P: Sink + Drop,
+    E: Sink + Drop,
+>(
     alloc: Global,
-    starts: &mut Starts<'_, T>,
-    text: &mut Vec<u8>,
-    lines: &mut Vec<u8>,
-) -> Result<u8, Refused>
-where
-    R::File: Send,
-    requires unspent { starts.old ≡ none_spent starts.old.allowed }
+    arguments: Result<Vec<String>, Refused>,
+    mut input: I,
+    files: O,
+    slots: F,
+    starts: Starts<'_, T>,
+    mut output: P,
+    mut errors: E,
+) -> ExitCode
+    requires unspent { starts ≡ none_spent starts.allowed }
 {
-    let arguments = arguments_of(alloc, env::args(rt))?;
-    let mut files = SystemFiles::new(rt);
-    let mut slots = SystemSlots::new(rt);
+    let mut world = World::new(alloc, files, slots, starts);
+    let status = match work(alloc, arguments, &mut input, &mut world) {
+        Ok(ended) => ended.status,
+        Err(refused) => report(alloc, &refused, &mut world.lines),
+    };
+    finish(
+        &mut output,
+        &mut errors,
+        status,
+        world.text.as_slice(),
+        world.lines.as_slice(),
+    )
+}
+
+// Does what the arguments state, and returns how it ended. Without arguments after the program's name, it prints the instance of the model in
+// the input; else it leaves the input alone.
+fn work<I: Feed, T: Threads + Wait + Sync, O: Opener + Drop, F: FileSlots + Drop>(
+    alloc: Global,
+    arguments: Result<Vec<String>, Refused>,
+    input: &mut I,
+    world: &mut World<'_, O, F, T>,
+) -> Result<Ended<F::Slot>, Refused>
+    requires unspent { world.old.starts ≡ none_spent world.old.starts.allowed }
+{
+    let arguments = arguments?;
     if arguments.len() <= 1 {
-        let mut input = ReadFeed::new(rt.reader());
-        return print_model(
-            alloc, &mut input, &mut files, &mut slots, starts, text, lines,
-        );
+        return print_model(alloc, input, world);
     }
     match job(alloc, arguments.as_slice()) {
-        Ok(
-            Job::Compile {
-                plan,
-                out,
-                settings,
-                zones,
-            },
-        ) => {
-            let plan = plan.as_str();
-            let ended = compile(
-                alloc, &mut files, &mut slots, plan, settings, out, zones, starts, text, lines,
-            )?;
-            Ok(ended.status)
+        Ok(Job::Compile(run)) => compile(alloc, run, world),
+        Ok(Job::Check { base }) => {
+            let status = check(
+                alloc,
+                &mut world.files,
+                base.as_str(),
+                &mut world.text,
+                &mut world.lines,
+            );
+            Ok(Ended {
+                status,
+                sinks: None,
+            })
         }
-        Ok(Job::Check { base }) => Ok(check(alloc, &mut files, base.as_str(), text, lines)),
-        Err(JobFault::Line(error)) => {
-            let refused = append_error(alloc, &error, text, lines)?;
-            Ok(if refused { USAGE } else { 0 })
+        Err(fault) => {
+            let status = append_fault(alloc, &fault, &mut world.text, &mut world.lines)?;
+            Ok(Ended {
+                status,
+                sinks: None,
+            })
         }
-        Err(JobFault::OutOfMemory) => Err(Refused::from(AllocError)),
     }
 }
 
 // Prints the instance of the model in the input, and opens no file.
-fn print_model<I: Feed, T: Threads + Wait + Sync, O: Opener, F: FileSlots>(
+fn print_model<I: Feed, T: Threads + Wait + Sync, O: Opener + Drop, F: FileSlots + Drop>(
     alloc: Global,
     input: &mut I,
-    files: &mut O,
-    slots: &mut F,
-    starts: &mut Starts<'_, T>,
-    text: &mut Vec<u8>,
-    lines: &mut Vec<u8>,
-) -> Result<u8, Refused>
-    requires unspent { starts.old ≡ none_spent starts.old.allowed }
-    ensures ends { IfOk result (IsDoneOrRefused
-        (PrintsInput (I.state input.old) (I.state input.new) starts.new)
-        (IsNotPrinted (I.state input.old) (I.state input.new) starts.old starts.new)
-        text.old.items text.new.items lines.old.items lines.new.items) }
+    world: &mut World<'_, O, F, T>,
+) -> Result<Ended<F::Slot>, Refused>
+    requires unspent { world.old.starts ≡ none_spent world.old.starts.allowed }
+    ensures ends { IfOk result (λ ended. CommandEnds
+        (PrintsInput (I.state input.old) (I.state input.new))
+        (IsNotPrinted (I.state input.old) (I.state input.new)) world.old world.new ended.status) }
     ensures unread { IfErr result (IsNoInput (I.state input.old) (I.state input.new)) }
-    ensures still { OnErr result ((starts.new ≡ starts.old) × (text.new.items ≡ text.old.items)
-        × (lines.new.items ≡ lines.old.items)) }
-    ensures opened { O.opened files.new ≡ O.opened files.old }
-    ensures made { F.made slots.new ≡ F.made slots.old }
-    ensures settled { AreSettled starts.old starts.new }
+    ensures still { OnErr result ((world.new.starts ≡ world.old.starts)
+        × (world.new.text ≡ world.old.text) × (world.new.lines ≡ world.old.lines)) }
+    ensures opened { world.new.opened ≡ world.old.opened }
+    ensures made { world.new.made ≡ world.old.made }
+    ensures settled { AreSettled world.old.starts world.new.starts }
 {
     let task = Task::Pipe(read_model(alloc, input)?);
-    let ended = run(alloc, files, slots, &task, starts, text, lines)?;
-    Ok(ended.status)
+    let ended = run(alloc, &task, world)?;
+    Ok(ended)
 }
 
-// Compiles the plan in this file and these zone files to the files of BASE.
-fn compile<T: Threads + Wait + Sync, O: Opener, F: FileSlots>(
+// Compiles the plan in the file of the arguments to the files of BASE.
+fn compile<T: Threads + Wait + Sync, O: Opener + Drop, F: FileSlots + Drop>(
     alloc: Global,
-    files: &mut O,
-    slots: &mut F,
-    plan: &str,
-    settings: Settings,
-    base: String,
-    zones: Vec<String>,
-    starts: &mut Starts<'_, T>,
-    text: &mut Vec<u8>,
-    lines: &mut Vec<u8>,
+    arguments: RunArguments,
+    world: &mut World<'_, O, F, T>,
 ) -> Result<Ended<F::Slot>, Refused>
-    requires unspent { starts.old ≡ none_spent starts.old.allowed }
-    ensures ends { IfOk result (λ ended. IsDoneOrRefused (ReportsRowsFrom plan.now (string_bytes base)
-        (map string_bytes zones.items) (O.opened files.old) (O.opened files.new) (F.made slots.old)
-        (F.made slots.new) starts.old starts.new F.Slot.reports O.Opened.state settings
-        ended.sinks) (IsNoCompileFrom plan.now (string_bytes base)
-        (map string_bytes zones.items) (O.opened files.old) (O.opened files.new) (F.made slots.old)
-        (F.made slots.new) starts.old starts.new F.Slot.reports O.Opened.state settings ended.sinks)
-        text.old.items text.new.items lines.old.items lines.new.items ended.status) }
-    ensures unread { IfErr result (IsNotBegun O.Opened.state plan.now
-        (O.opened files.old) (O.opened files.new)) }
-    ensures still { OnErr result ((F.made slots.new ≡ F.made slots.old) × (starts.new ≡ starts.old)
-        × (text.new.items ≡ text.old.items) × (lines.new.items ≡ lines.old.items)) }
-    ensures settled { AreSettled starts.old starts.new }
+    requires unspent { world.old.starts ≡ none_spent world.old.starts.allowed }
+    ensures ends { IfOk result (λ ended. CommandEnds
+        (CompilesFrom O.Opened.state arguments ended.sinks)
+        (IsNoCompileFrom O.Opened.state arguments ended.sinks) world.old world.new ended.status) }
+    ensures unread { IfErr result (IsNotBegun O.Opened.state (string_bytes arguments.plan)
+        world.old.opened world.new.opened) }
+    ensures still { OnErr result ((world.new.made ≡ world.old.made)
+        × (world.new.starts ≡ world.old.starts) × (world.new.text ≡ world.old.text)
+        × (world.new.lines ≡ world.old.lines)) }
+    ensures settled { AreSettled world.old.starts world.new.starts }
 {
-    let plan = read_plan_file(alloc, files, plan)?;
+    let plan = read_plan_file(alloc, &mut world.files, arguments.plan.as_str())?;
+    let RunArguments {
+        out,
+        settings,
+        zones,
+        ..
+    } = arguments;
     let task = Task::Files {
         plan,
         settings,
-        base,
+        base: out,
         zones,
     };
-    Ok(run(alloc, files, slots, &task, starts, text, lines)?)
+    Ok(run(alloc, &task, world)?)
 }
 
 // Runs the task with the destinations of its plan, in order. It makes the closures itself, since a function that returned a closure
 // could guarantee nothing about it.
-fn run<T: Threads + Wait + Sync, O: Opener, F: FileSlots>(
+fn run<T: Threads + Wait + Sync, O: Opener + Drop, F: FileSlots + Drop>(
     alloc: Global,
-    files: &mut O,
-    slots: &mut F,
     task: &Task,
-    starts: &mut Starts<'_, T>,
-    text: &mut Vec<u8>,
-    lines: &mut Vec<u8>,
+    world: &mut World<'_, O, F, T>,
 ) -> Result<Ended<F::Slot>, AllocError>
-    requires unspent { starts.old ≡ none_spent starts.old.allowed }
-    ensures ends { IfOk result (λ ended. IsDoneOrRefused (IsTaskDone (O.opened files.old)
-        (O.opened files.new) (F.made slots.old) (F.made slots.new) starts.old starts.new F.Slot.reports
-        task.now ended.sinks) (IsNoTask (O.opened files.old) (O.opened files.new) (F.made slots.old)
-        (F.made slots.new) starts.old starts.new F.Slot.reports O.Opened.state task.now
-        (formulas_of_plan (plan_in task.now)) ended.sinks)
-        text.old.items text.new.items lines.old.items lines.new.items ended.status) }
-    ensures still { OnErr result ((O.opened files.new ≡ O.opened files.old)
-        × (F.made slots.new ≡ F.made slots.old) × (starts.new ≡ starts.old)
-        × (text.new.items ≡ text.old.items) × (lines.new.items ≡ lines.old.items)) }
-    ensures settled { AreSettled starts.old starts.new }
+    requires unspent { world.old.starts ≡ none_spent world.old.starts.allowed }
+    ensures ends { let formulas = formulas_of_plan (plan_in task.now) in
+        IfOk result (λ ended. CommandEnds (IsTaskDone formulas task.now ended.sinks)
+        (IsNoTask formulas O.Opened.state task.now ended.sinks)
+        world.old world.new ended.status) }
+    ensures still { OnErr result (world.new ≡ world.old) }
+    ensures settled { AreSettled world.old.starts world.new.starts }
 {
     let mut destinations = Vec::new(alloc);
     for named in task.plan().formulas() {
@@ -210,5 +215,5 @@ fn run<T: Threads + Wait + Sync, O: Opener, F: FileSlots>(
         destinations.push(Destination::new(named.formula.copy(alloc)?, valuer))?;
     }
     let destinations = destinations.as_slice();
-    Ok(task.run(alloc, files, slots, destinations, starts, text, lines))
+    Ok(task.run(alloc, destinations, world))
 }

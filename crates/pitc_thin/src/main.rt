@@ -3,23 +3,26 @@
 //! It reads a plan and its zone files like `pitc compile`, and writes one precedence file.
 #![tactic(auto)]
 
-ghost use Rattle.std.specs.Prelude.{◌≡◌, map, string_bytes, IfErr, IfOk, OnErr};
-ghost use Rattle.command_io.specs.FaultLine.{IsDoneOrRefused};
+ghost use Rattle.std.specs.Prelude.{◌≡◌, ◌++◌, [], ◌∷◌, map, string_bytes, IfErr, IfOk, OnErr, OnOk};
 ghost use Rattle.command_io.specs.PlanFile.{IsNotBegun};
-ghost use Rattle.plan_parts.specs.PlanFormulas.{formulas_of_plan};
+ghost use Rattle.command_io.specs.RunState.{inputs_of_plan, run_state};
+ghost use Rattle.command_io.specs.World.{CommandEnds};
+ghost use Rattle.devices.specs.sinks.FileSinkView.{file_sink_state, unbegun};
+ghost use Rattle.pitc_thin.specs.Thinning.{Thins};
 ghost use Rattle.plan_parts.specs.formulas.Formula.{IsFormulaInRange};
 ghost use Rattle.plan_parts.specs.formulas.Worth.{worth};
 ghost use Rattle.run_threads.specs.Starts.{none_spent, AreSettled};
-ghost use Rattle.thin_command.specs.Thin.{IsNotThinned, IsNotThinnedFrom, TellsThinned, TellsThinnedFrom};
+ghost use Rattle.thin_command.specs.Thin.{IsNotThinned, TellsThinned};
 
 use command_io::arguments::arguments_of;
 use command_io::plan_file::read_plan_file;
 use command_io::refused::Refused;
 use command_io::refused::fault_line::report;
-use command_io::refused::status::{USAGE, finish};
-use command_lines::job::{JobFault, RunArguments, append_error};
+use command_io::refused::status::finish;
+use command_io::world::World;
+use command_lines::job::{RunArguments, append_fault};
 use command_lines::thin_line::thin_run;
-use devices::files::file_slot::FileSlots;
+use devices::files::file_slot::{FileSlot, FileSlots};
 use devices::files::opener::Opener;
 use devices::files::system_files::SystemFiles;
 use devices::files::system_slots::SystemSlots;
@@ -31,129 +34,135 @@ use pit_model::block::Block;
 use pit_model::destination::{Destination, Valuer};
 use pit_model::plan::Plan;
 use plan_parts::settings::Settings;
-use std::alloc::{Alloc, AllocError, Global};
+use std::alloc::{AllocError, Global};
 use std::env;
 use std::process::ExitCode;
-use std::rt::{Env, Files};
 use std::sync::Wait;
 use std::thread::Threads;
 use thin_command::thin::thin;
 
 fn main(rt: HostRuntime) -> ExitCode {
     let alloc = rt.alloc();
-    let mut text = Vec::new(alloc);
-    let mut lines = Vec::new(alloc);
-    let mut starts = Starts::new(&rt, MOST_STARTS);
-    let status = match work(&rt, alloc, &mut starts, &mut text, &mut lines) {
-        Ok(status) => status,
-        Err(refused) => report(alloc, &refused, &mut lines),
-    };
-    finish(
-        &mut WriteSink::new(rt.stdout()),
-        &mut WriteSink::new(rt.stderr()),
-        status,
-        text.as_slice(),
-        lines.as_slice(),
+    program(
+        alloc,
+        arguments_of(alloc, env::args(&rt)),
+        SystemFiles::new(&rt),
+        SystemSlots::new(&rt),
+        Starts::new(&rt, MOST_STARTS),
+        WriteSink::new(rt.stdout()),
+        WriteSink::new(rt.stderr()),
     )
 }
 
-// Runs the job that the arguments state, and returns the exit status. Here the arguments and the system's files go to steps whose
-// contracts state what they do with them; none of these steps has the runtime.
-fn work<R: Alloc<A = Global> + Env + Files, T: Threads + Wait + Sync>(
-    rt: &R,
+// Runs the program in a world of these files, slots and starts, and prints what `work` leaves there.
+fn program<
+    O: Opener + Drop,
+    F: FileSlots + Drop,
+    T: Threads + Wait + Sync,
+    P: Sink + Drop,
+    E: Sink + Drop,
+>(
     alloc: Global,
-    starts: &mut Starts<'_, T>,
-    text: &mut Vec<u8>,
-    lines: &mut Vec<u8>,
-) -> Result<u8, Refused>
-where
-    R::File: Send,
-    requires unspent { starts.old ≡ none_spent starts.old.allowed }
+    arguments: Result<Vec<String>, Refused>,
+    files: O,
+    slots: F,
+    starts: Starts<'_, T>,
+    mut output: P,
+    mut errors: E,
+) -> ExitCode
+    requires unspent { starts ≡ none_spent starts.allowed }
 {
-    let arguments = arguments_of(alloc, env::args(rt))?;
+    let mut world = World::new(alloc, files, slots, starts);
+    let status = match work(alloc, arguments, &mut world) {
+        Ok(ended) => ended.status,
+        Err(refused) => report(alloc, &refused, &mut world.lines),
+    };
+    finish(
+        &mut output,
+        &mut errors,
+        status,
+        world.text.as_slice(),
+        world.lines.as_slice(),
+    )
+}
+
+// The end of the program: its exit status, and the sink of FILE if its slot was made.
+#[derive(Drop)]
+struct Ended<P: FileSlot> {
+    status: u8,
+    sink: Option<FileSink<P>>,
+}
+
+// Does what the arguments state, and returns how it ended.
+fn work<T: Threads + Wait + Sync, O: Opener + Drop, F: FileSlots + Drop>(
+    alloc: Global,
+    arguments: Result<Vec<String>, Refused>,
+    world: &mut World<'_, O, F, T>,
+) -> Result<Ended<F::Slot>, Refused>
+    requires unspent { world.old.starts ≡ none_spent world.old.starts.allowed }
+{
+    let arguments = arguments?;
     match thin_run(alloc, arguments.as_slice()) {
-        Ok(
-            RunArguments {
-                plan,
-                out,
-                settings,
-                zones,
-            },
-        ) => thin_from(
-            alloc,
-            &mut SystemFiles::new(rt),
-            &mut FileSink::from_slot(SystemSlots::new(rt).slot(out)),
-            plan.as_str(),
-            settings,
-            zones.as_slice(),
-            starts,
-            text,
-            lines,
-        ),
-        Err(JobFault::Line(error)) => {
-            let refused = append_error(alloc, &error, text, lines)?;
-            Ok(if refused { USAGE } else { 0 })
+        Ok(run) => thin_from(alloc, run, world),
+        Err(fault) => {
+            let status = append_fault(alloc, &fault, &mut world.text, &mut world.lines)?;
+            Ok(Ended { status, sink: None })
         }
-        Err(JobFault::OutOfMemory) => Err(Refused::from(AllocError)),
     }
 }
 
-// Writes the retained precedences of the plan in this file and these zone files.
-fn thin_from<T: Threads + Wait + Sync, O: Opener, S: Sink>(
+// Writes the retained precedences of the plan and the zone files of the arguments.
+fn thin_from<T: Threads + Wait + Sync, O: Opener + Drop, F: FileSlots + Drop>(
     alloc: Global,
-    files: &mut O,
-    sink: &mut S,
-    plan: &str,
-    settings: Settings,
-    zones: &[String],
-    starts: &mut Starts<'_, T>,
-    text: &mut Vec<u8>,
-    lines: &mut Vec<u8>,
-) -> Result<u8, Refused>
-    requires unspent { starts.old ≡ none_spent starts.old.allowed }
-    ensures ends { IfOk result (IsDoneOrRefused (TellsThinnedFrom plan.now
-        (map string_bytes zones.now) (O.opened files.old) (O.opened files.new) starts.old starts.new
-        (S.state sink.old) (S.state sink.new) O.Opened.state settings)
-        (IsNotThinnedFrom plan.now (map string_bytes zones.now) (O.opened files.old)
-        (O.opened files.new) starts.old starts.new (S.state sink.old) (S.state sink.new)
-        O.Opened.state settings)
-        text.old.items text.new.items lines.old.items lines.new.items) }
-    ensures unread { IfErr result (IsNotBegun O.Opened.state plan.now
-        (O.opened files.old) (O.opened files.new)) }
-    ensures still { OnErr result ((S.state sink.new ≡ S.state sink.old) × (starts.new ≡ starts.old)
-        × (text.new.items ≡ text.old.items) × (lines.new.items ≡ lines.old.items)) }
-    ensures settled { AreSettled starts.old starts.new }
+    arguments: RunArguments,
+    world: &mut World<'_, O, F, T>,
+) -> Result<Ended<F::Slot>, Refused>
+    requires unspent { world.old.starts ≡ none_spent world.old.starts.allowed }
+    ensures ends { IfOk result (λ ended. Thins O.Opened.state arguments ended.sink
+        world.old world.new ended.status) }
+    ensures unread { IfErr result (IsNotBegun O.Opened.state (string_bytes arguments.plan)
+        world.old.opened world.new.opened) }
+    ensures still { OnErr result ((world.new.made ≡ world.old.made)
+        × (world.new.starts ≡ world.old.starts) × (world.new.text ≡ world.old.text)
+        × (world.new.lines ≡ world.old.lines)) }
+    ensures settled { AreSettled world.old.starts world.new.starts }
 {
-    let plan = read_plan_file(alloc, files, plan)?;
-    Ok(run(
-        alloc, files, sink, &plan, settings, zones, starts, text, lines,
-    )?)
+    let plan = read_plan_file(alloc, &mut world.files, arguments.plan.as_str())?;
+    let RunArguments {
+        out,
+        settings,
+        zones,
+        ..
+    } = arguments;
+    let run = run(alloc, &plan, settings, zones.as_slice(), out, world)?;
+    Ok(Ended {
+        status: run.0,
+        sink: Some(run.1),
+    })
 }
 
-// The same for this plan, with its destinations in order. It makes the closures itself, since a function that returned a closure
-// could guarantee nothing about it.
-fn run<T: Threads + Wait + Sync, O: Opener, S: Sink>(
+// The same for this plan, with its destinations in order. Returns the exit status and the sink of FILE, whose slot is made once all memory
+// is there. It makes the closures itself, since a function that returned a closure could guarantee nothing about it.
+fn run<T: Threads + Wait + Sync, O: Opener + Drop, F: FileSlots + Drop>(
     alloc: Global,
-    files: &mut O,
-    sink: &mut S,
     plan: &Plan,
     settings: Settings,
     zones: &[String],
-    starts: &mut Starts<'_, T>,
-    text: &mut Vec<u8>,
-    lines: &mut Vec<u8>,
-) -> Result<u8, AllocError>
-    requires unspent { starts.old ≡ none_spent starts.old.allowed }
-    ensures ends { IfOk result (IsDoneOrRefused (TellsThinned plan.now (map string_bytes zones.now)
-        (O.opened files.old) (O.opened files.new) starts.old starts.new (S.state sink.old)
-        (S.state sink.new) settings) (IsNotThinned plan.now (map string_bytes zones.now)
-        (O.opened files.old) (O.opened files.new) starts.old starts.new (S.state sink.old)
-        (S.state sink.new) O.Opened.state (formulas_of_plan plan.now) settings)
-        text.old.items text.new.items lines.old.items lines.new.items) }
-    ensures still { OnErr result ((O.opened files.new ≡ O.opened files.old)
-        × (S.state sink.new ≡ S.state sink.old) × (starts.new ≡ starts.old)
-        × (text.new.items ≡ text.old.items) × (lines.new.items ≡ lines.old.items)) }
-    ensures settled { AreSettled starts.old starts.new }
+    out: String,
+    world: &mut World<'_, O, F, T>,
+) -> Result<(u8, FileSink<F::Slot>), AllocError>
+    requires unspent { world.old.starts ≡ none_spent world.old.starts.allowed }
+    ensures ends { let inputs = inputs_of_plan plan.now (map string_bytes zones.now) settings in
+        let first = file_sink_state (unbegun F.Slot.reports (string_bytes out)) in
+        IfOk result (λ ended. CommandEnds
+        (λ old new. TellsThinned inputs (run_state old.opened old.starts first)
+        (run_state new.opened new.starts (file_sink_state ended.1)) old.text new.text)
+        (λ old new. IsNotThinned inputs (run_state old.opened old.starts first)
+        (run_state new.opened new.starts (file_sink_state ended.1)) O.Opened.state)
+        world.old world.new ended.0) }
+    ensures made { OnOk result (world.new.made ≡ world.old.made ++ string_bytes out ∷ []) }
+    ensures still { OnErr result (world.new ≡ world.old) }
+    ensures settled { AreSettled world.old.starts world.new.starts }
 {
     let mut destinations = Vec::new(alloc);
     for named in plan.formulas() {
@@ -167,16 +176,15 @@ fn run<T: Threads + Wait + Sync, O: Opener, S: Sink>(
         )?;
         destinations.push(Destination::new(named.formula.copy(alloc)?, valuer))?;
     }
-    Ok(thin(
+    let mut sink = FileSink::from_slot(world.slots.slot(out));
+    let status = thin(
         alloc,
-        files,
-        sink,
         plan,
         destinations.as_slice(),
         settings,
-        starts,
         zones,
-        text,
-        lines,
-    ))
+        &mut sink,
+        world,
+    );
+    Ok((status, sink))
 }

@@ -1,7 +1,8 @@
 //! From the files of a plan and its zones to the reduced lists of their predecessors.
 
 ghost use Rattle.std.specs.Prelude.{◌≡◌, ◌++◌, [], ◌∷◌, map, string_bytes, IfErr, IfOk, OnErr, OnOk};
-ghost use Rattle.command_io.specs.FaultLine.{IsDoneOrRefused};
+ghost use Rattle.command_io.specs.RunState.{Inputs as AnInputs, run_state};
+ghost use Rattle.command_io.specs.World.{CommandEnds};
 ghost use Rattle.plan_parts.specs.Destinations.{formulas_of};
 ghost use Rattle.run_threads.specs.Starts.{none_spent, AreSettled};
 ghost use Rattle.thin_command.specs.CountsText.{counts_words};
@@ -11,7 +12,9 @@ use crate::counts::ThinCounts;
 use crate::thin_writing::write_fewer;
 use command_io::refused::Refused;
 use command_io::refused::fault_line::report;
+use command_io::world::World;
 use command_io::zone_feeds::open_all;
+use devices::files::file_slot::FileSlots;
 use devices::files::opener::Opener;
 use devices::sinks::sink::Sink;
 use pit_compile::settings::Settings;
@@ -52,13 +55,21 @@ pub fn thin_into<R: Threads + Wait + Sync, O: Opener, S: Sink>(
     out: &mut Vec<u8>,
 ) -> Result<(), Refused>
     requires unspent { starts.old ≡ none_spent starts.old.allowed }
-    ensures done { OnOk result (TellsThinned plan.now (map string_bytes zones.now) (O.opened files.old)
-        (O.opened files.new) starts.old starts.new (S.state sink.old) (S.state sink.new)
-        settings out.old.items out.new.items) }
+    ensures done { OnOk result (TellsThinned (record {
+      plan = plan.now;
+      formulas = formulas_of destinations.now;
+      zones = map string_bytes zones.now;
+      settings = settings;
+    }) (run_state (O.opened files.old) starts.old (S.state sink.old))
+        (run_state (O.opened files.new) starts.new (S.state sink.new)) out.old.items out.new.items) }
     ensures kept { OnErr result (out.new.items ≡ out.old.items) }
-    ensures refused { IfErr result (IsNotThinned plan.now (map string_bytes zones.now)
-        (O.opened files.old) (O.opened files.new) starts.old starts.new (S.state sink.old)
-        (S.state sink.new) O.Opened.state (formulas_of destinations.now) settings) }
+    ensures refused { IfErr result (IsNotThinned (record {
+      plan = plan.now;
+      formulas = formulas_of destinations.now;
+      zones = map string_bytes zones.now;
+      settings = settings;
+    }) (run_state (O.opened files.old) starts.old (S.state sink.old))
+        (run_state (O.opened files.new) starts.new (S.state sink.new)) O.Opened.state) }
     ensures settled { AreSettled starts.old starts.new }
 {
     let feeds = open_all(alloc, zones, files)?;
@@ -75,43 +86,47 @@ pub fn thin_into<R: Threads + Wait + Sync, O: Opener, S: Sink>(
     Ok(())
 }
 
-/// Does the same as `thin_into`, and returns the exit status of the program. If it is 0, appends the line of the counts to `out`, else the
-/// line of the failure to `err`. Only one of the two grows. If memory is refused, the status is the status of out of memory, and both are
-/// unchanged.
-pub fn thin<R: Threads + Wait + Sync, O: Opener, S: Sink>(
+/// Does the same as `thin_into`, and returns the exit status of the program. If it is 0, appends the line of the counts to the text, else
+/// the line of the failure to the lines. Only one of the two grows. If memory is refused, the status is the status of out of memory, and
+/// both are unchanged. Makes no slot.
+pub fn thin<R: Threads + Wait + Sync, O: Opener + Drop, F: FileSlots + Drop, S: Sink>(
     alloc: Global,
-    files: &mut O,
-    sink: &mut S,
     plan: &Plan,
     destinations: &[Destination],
     settings: Settings,
-    starts: &mut Starts<'_, R>,
     zones: &[String],
-    out: &mut Vec<u8>,
-    err: &mut Vec<u8>,
+    sink: &mut S,
+    world: &mut World<'_, O, F, R>,
 ) -> u8
-    requires unspent { starts.old ≡ none_spent starts.old.allowed }
-    ensures ends { IsDoneOrRefused (TellsThinned plan.now (map string_bytes zones.now)
-        (O.opened files.old) (O.opened files.new) starts.old starts.new (S.state sink.old)
-        (S.state sink.new) settings) (IsNotThinned plan.now (map string_bytes zones.now)
-        (O.opened files.old) (O.opened files.new) starts.old starts.new (S.state sink.old)
-        (S.state sink.new) O.Opened.state (formulas_of destinations.now) settings)
-        out.old.items out.new.items err.old.items err.new.items result }
-    ensures settled { AreSettled starts.old starts.new }
+    requires unspent { world.old.starts ≡ none_spent world.old.starts.allowed }
+    ensures ends { let inputs : AnInputs = record {
+      plan = plan.now;
+      formulas = formulas_of destinations.now;
+      zones = map string_bytes zones.now;
+      settings = settings;
+    } in
+        CommandEnds (λ old new. TellsThinned inputs
+        (run_state old.opened old.starts (S.state sink.old))
+        (run_state new.opened new.starts (S.state sink.new)) old.text new.text)
+        (λ old new. IsNotThinned inputs (run_state old.opened old.starts (S.state sink.old))
+        (run_state new.opened new.starts (S.state sink.new)) O.Opened.state)
+        world.old world.new result }
+    ensures made { world.new.made ≡ world.old.made }
+    ensures settled { AreSettled world.old.starts world.new.starts }
 {
     match thin_into(
         alloc,
-        files,
+        &mut world.files,
         sink,
         plan,
         destinations,
         settings,
-        starts,
+        &mut world.starts,
         zones,
-        out,
+        &mut world.text,
     ) {
         Ok(()) => 0,
-        Err(refused) => report(alloc, &refused, err),
+        Err(refused) => report(alloc, &refused, &mut world.lines),
     }
 }
 

@@ -1,6 +1,6 @@
 //! The line that the program prints for an error, and the exit status.
 
-ghost use Rattle.std.specs.Prelude.{◌≡◌, ◌≤◌, ◌++◌, length, Ok, IfOk, IfErr, OnOk, OnErr};
+ghost use Rattle.std.specs.Prelude.{◌≡◌, ◌≢◌, ◌≤◌, ◌++◌, length, Ok, IfOk, IfErr, OnOk, OnErr};
 ghost use Rattle.pit_model.specs.Planned.{planned};
 ghost use Rattle.command_io.specs.FaultLine.{Ends, EndsBy, EndsRefused, program_line};
 ghost use Rattle.command_io.specs.PlanText.{IsNoPlan};
@@ -35,7 +35,8 @@ pub fn plan_from(alloc: Global, text: &[u8], lines: &mut Vec<u8>) -> Result<Plan
 /// Appends the line of an error, and returns the exit status. If memory is refused, before or for the line, the status is 4 and
 /// `lines` is unchanged.
 pub fn report(alloc: Global, refused: &Refused, lines: &mut Vec<u8>) -> u8
-    ensures { Ends refused.now lines.old.items lines.new.items result }
+    ensures ends { Ends refused.now lines.old.items lines.new.items result }
+    ensures fails { result ≢ 0 }
 {
     if *refused == Refused::Run(Refusal::OutOfMemory) {
         return RESOURCES;

@@ -12,7 +12,7 @@ returns-clause-ends g c =
     ap formulas_of c.as_slice-destinations.ensures.value ∙ c.loop-named.invariant
     ∙ ap (map (λ f. f.formula)) (take_all c.loop-named.named-index (plan_in c.args.task.now).formulas (omega (arith, ap (λ p. length p.formulas) c.plan.ensures, ap length c.formulas-named-items.ensures.value, c.loop-named.auto.named-index-end, c.loop-named-test.false))) in
     record {
-      done = ends.done;
+      done = λ zero. rw all at (ends.done zero);
       quiet = ends.quiet;
       kept = ends.kept;
       refused = λ bad. let reported = ends.refused bad in (reported.0, rw all at reported.1, reported.2);

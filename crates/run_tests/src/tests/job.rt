@@ -2,7 +2,6 @@
 
 use command_lines::job::{Job, JobFault};
 use command_lines::stated_job::job;
-use pit_compile::settings::Settings;
 use std::alloc::Global;
 use std::test::Fail;
 
@@ -19,13 +18,7 @@ fn arguments_of(alloc: Global, line: &str) -> Result<Vec<String>, Fail> {
 // error.
 fn stated(alloc: Global, arguments: &[String]) -> Result<(usize, usize, usize), i32> {
     match job(alloc, arguments) {
-        Ok(
-            Job::Compile {
-                settings: Settings { valuers, capacity },
-                zones,
-                ..
-            },
-        ) => Ok((valuers, capacity, zones.len())),
+        Ok(Job::Compile(run)) => Ok((run.settings.valuers, run.settings.capacity, run.zones.len())),
         Ok(Job::Check { .. }) => Ok((0, 0, 0)),
         Err(JobFault::Line(error)) => Err(error.exit_code()),
         Err(JobFault::OutOfMemory) => Err(4),
@@ -54,18 +47,11 @@ fn settings_and_words(rt: HostRuntime) -> Result<(), Fail> {
 // Returns whether the arguments state that one zone file is compiled, with the default settings.
 fn compiles_one(alloc: Global, arguments: &[String]) -> bool {
     match job(alloc, arguments) {
-        Ok(
-            Job::Compile {
-                plan,
-                out,
-                settings,
-                zones,
-            },
-        ) => {
-            (settings.valuers, settings.capacity) == (4, 64)
-                && plan.as_str() == "p"
-                && out.as_str() == "b"
-                && zones.iter().all(|zone| zone.as_str() == "z")
+        Ok(Job::Compile(run)) => {
+            (run.settings.valuers, run.settings.capacity) == (4, 64)
+                && run.plan.as_str() == "p"
+                && run.out.as_str() == "b"
+                && run.zones.iter().all(|zone| zone.as_str() == "z")
         }
         _ => false,
     }

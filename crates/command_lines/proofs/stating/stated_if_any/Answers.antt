@@ -2,7 +2,6 @@ use Rattle.std.proofs.Common.{rules, ◌≡◌, Err, IfErr, List, Ok, map, strin
 use Rattle.std.proofs.lemmas.Result.{IfErr-weaker}
 use Rattle.clap.specs.Words.{FailsBy, HasKind, Text, fault_of, matches_of, subcommand_of}
 use Rattle.command_lines.specs.CommandLine.{HandsOn}
-use Rattle.command_lines.specs.inner.Commands.{FindsIfAny}
 use Rattle.command_lines.proofs.Accepted.{found_in, line_fails, no_fault, passed_on}
 use Rattle.command_lines.proofs.stating.stated_if_any.Goals as goal
 

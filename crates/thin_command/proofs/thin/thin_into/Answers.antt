@@ -6,6 +6,7 @@ use Rattle.pit_compile.specs.Settings.{IsSettingsFault}
 use Rattle.pit_compile.specs.Starts.{AreStartsOf}
 use Rattle.refusals.specs.declared.refusal.Refusal.TheVariants.{OutOfMemory}
 use Rattle.command_io.specs.declared.refused.Refused.TheVariants.{Run}
+use Rattle.command_io.specs.RunState.{run_state}
 use Rattle.plan_parts.specs.Destinations.{formulas_of}
 use Rattle.run_threads.specs.Starts.{AreSpent}
 use Rattle.thin_command.specs.CountsText.{counts_words}
@@ -17,10 +18,14 @@ pub returns-in_err-instance-clause-refused : goal.returns-in_err-instance-clause
 returns-in_err-instance-clause-refused g c =
     let p = err_from_is_err_and c.from_residual-in_err-instance.result c.from_residual-in_err-instance.ensures.1 in
     let many = length-map c.in_ok-feeds.feeds.items (λ feed. (g.O.Opened.Feed.state feed).remaining) in
-    rw (p.1, p.2) (refused_run c.args.plan.now (map string_bytes c.args.zones.now) (g.O.Opener.opened c.args.files.now)
-    (g.O.Opener.opened c.open_all.new.files) c.args.starts.now c.compile_with_starts.new.starts (g.S.Sink.state c.args.sink.now)
-    (g.S.Sink.state c.args.sink.now) g.O.Opened.Feed.state
-    (formulas_of c.args.destinations.now) c.args.settings c.in_ok-feeds.feeds.items c.in_err-instance.field-0.0 _ c.in_ok-feeds.ensures.opened refl
+    rw (p.1, p.2) (refused_run (record {
+      plan = c.args.plan.now;
+      formulas = formulas_of c.args.destinations.now;
+      zones = map string_bytes c.args.zones.now;
+      settings = c.args.settings;
+    }) (run_state (g.O.Opener.opened c.args.files.now) c.args.starts.now (g.S.Sink.state c.args.sink.now))
+    (run_state (g.O.Opener.opened c.open_all.new.files) c.compile_with_starts.new.starts (g.S.Sink.state c.args.sink.now)) g.O.Opened.Feed.state
+    c.in_ok-feeds.feeds.items c.in_err-instance.field-0.0 _ c.in_ok-feeds.ensures.opened refl
     (λ kind e. subst (λ n. IsSettingsFault c.args.plan.now n (formulas_of c.args.destinations.now) c.args.settings kind) (sym many)
     ((c.in_err-instance.ensures.compiles.settings kind).0 (ap Err e))) c.in_err-instance.ensures.compiles.refused
     (subst (λ n. AreStartsOf (c.args.settings.valuers + n) c.args.starts.now c.compile_with_starts.new.starts c.in_err-instance.field-0.0)
@@ -30,43 +35,58 @@ pub returns-in_err-counts-clause-refused : goal.returns-in_err-counts-clause-ref
 returns-in_err-counts-clause-refused g c =
     let p = err_from_is_err_and c.from_residual-in_err-counts.result c.from_residual-in_err-counts.ensures.1 in
     let many = length-map c.in_ok-feeds.feeds.items (λ feed. (g.O.Opened.Feed.state feed).remaining) in
-    let read = was_read c.args.plan.now (map string_bytes c.args.zones.now) (g.O.Opener.opened c.args.files.now)
-    (g.O.Opener.opened c.open_all.new.files) c.args.starts.now c.compile_with_starts.new.starts (g.S.Sink.state c.args.sink.now)
-    (g.S.Sink.state c.write_fewer.new.sink) (all_remaining g.O.Opened.Feed.state c.in_ok-feeds.feeds.items) c.args.settings
-    c.in_ok-instance.field-0
-    c.in_ok-feeds.ensures.opened c.in_ok-instance.ensures.compiles.done
+    let read = was_read (record {
+      plan = c.args.plan.now;
+      formulas = formulas_of c.args.destinations.now;
+      zones = map string_bytes c.args.zones.now;
+      settings = c.args.settings;
+    }) (run_state (g.O.Opener.opened c.args.files.now) c.args.starts.now (g.S.Sink.state c.args.sink.now))
+    (run_state (g.O.Opener.opened c.open_all.new.files) c.compile_with_starts.new.starts (g.S.Sink.state c.write_fewer.new.sink)) (all_remaining g.O.Opened.Feed.state c.in_ok-feeds.feeds.items)
+    c.in_ok-instance.field-0 c.in_ok-feeds.ensures.opened c.in_ok-instance.ensures.compiles.done
     (subst (λ n. AreSpent (c.args.settings.valuers + n) c.compile_with_starts.new.starts) (sym many) c.in_ok-instance.ensures.spends.started) in
-    rw (p.1, p.2) (cut_off c.args.plan.now (map string_bytes c.args.zones.now) (g.O.Opener.opened c.args.files.now)
-    (g.O.Opener.opened c.open_all.new.files) c.args.starts.now c.compile_with_starts.new.starts (g.S.Sink.state c.args.sink.now)
-    (g.S.Sink.state c.write_fewer.new.sink) g.O.Opened.Feed.state
-    (formulas_of c.args.destinations.now) c.args.settings c.in_ok-instance.field-0.instance
-    c.in_err-counts.field-0.0 _ refl read c.in_err-counts.ensures.refused)
+    rw (p.1, p.2) (cut_off (record {
+      plan = c.args.plan.now;
+      formulas = formulas_of c.args.destinations.now;
+      zones = map string_bytes c.args.zones.now;
+      settings = c.args.settings;
+    }) (run_state (g.O.Opener.opened c.args.files.now) c.args.starts.now (g.S.Sink.state c.args.sink.now))
+    (run_state (g.O.Opener.opened c.open_all.new.files) c.compile_with_starts.new.starts (g.S.Sink.state c.write_fewer.new.sink)) g.O.Opened.Feed.state
+    c.in_ok-instance.field-0.instance c.in_err-counts.field-0.0 _ refl read c.in_err-counts.ensures.refused)
 
 pub returns-in_err-append_counts-clause-refused : goal.returns-in_err-append_counts-clause-refused
 returns-in_err-append_counts-clause-refused g c =
     let p = err_from_is_err_and c.from_residual-in_err-append_counts.result c.from_residual-in_err-append_counts.ensures.1 in
     let told : c.from_residual-in_err-append_counts.result ≡ Err (Run OutOfMemory) = cc (p.1, p.2) in
     let many = length-map c.in_ok-feeds.feeds.items (λ feed. (g.O.Opened.Feed.state feed).remaining) in
-    let read = was_read c.args.plan.now (map string_bytes c.args.zones.now) (g.O.Opener.opened c.args.files.now)
-    (g.O.Opener.opened c.open_all.new.files) c.args.starts.now c.compile_with_starts.new.starts (g.S.Sink.state c.args.sink.now)
-    (g.S.Sink.state c.write_fewer.new.sink) (all_remaining g.O.Opened.Feed.state c.in_ok-feeds.feeds.items) c.args.settings
-    c.in_ok-instance.field-0
-    c.in_ok-feeds.ensures.opened c.in_ok-instance.ensures.compiles.done
+    let read = was_read (record {
+      plan = c.args.plan.now;
+      formulas = formulas_of c.args.destinations.now;
+      zones = map string_bytes c.args.zones.now;
+      settings = c.args.settings;
+    }) (run_state (g.O.Opener.opened c.args.files.now) c.args.starts.now (g.S.Sink.state c.args.sink.now))
+    (run_state (g.O.Opener.opened c.open_all.new.files) c.compile_with_starts.new.starts (g.S.Sink.state c.write_fewer.new.sink)) (all_remaining g.O.Opened.Feed.state c.in_ok-feeds.feeds.items)
+    c.in_ok-instance.field-0 c.in_ok-feeds.ensures.opened c.in_ok-instance.ensures.compiles.done
     (subst (λ n. AreSpent (c.args.settings.valuers + n) c.compile_with_starts.new.starts) (sym many) c.in_ok-instance.ensures.spends.started) in
-    rw told (refused_line c.args.plan.now (map string_bytes c.args.zones.now) (g.O.Opener.opened c.args.files.now)
-    (g.O.Opener.opened c.open_all.new.files) c.args.starts.now c.compile_with_starts.new.starts (g.S.Sink.state c.args.sink.now)
-    (g.S.Sink.state c.write_fewer.new.sink) g.O.Opened.Feed.state
-    (formulas_of c.args.destinations.now) c.args.settings c.in_ok-instance.field-0.instance
-    (Run OutOfMemory) read c.in_ok-counts.ensures.written refl)
+    rw told (refused_line (record {
+      plan = c.args.plan.now;
+      formulas = formulas_of c.args.destinations.now;
+      zones = map string_bytes c.args.zones.now;
+      settings = c.args.settings;
+    }) (run_state (g.O.Opener.opened c.args.files.now) c.args.starts.now (g.S.Sink.state c.args.sink.now))
+    (run_state (g.O.Opener.opened c.open_all.new.files) c.compile_with_starts.new.starts (g.S.Sink.state c.write_fewer.new.sink)) g.O.Opened.Feed.state
+    c.in_ok-instance.field-0.instance (Run OutOfMemory) read c.in_ok-counts.ensures.written refl)
 
 pub returns-clause-done : goal.returns-clause-done
 returns-clause-done g c =
     let many = length-map c.in_ok-feeds.feeds.items (λ feed. (g.O.Opened.Feed.state feed).remaining) in
-    let read = was_read c.args.plan.now (map string_bytes c.args.zones.now) (g.O.Opener.opened c.args.files.now)
-    (g.O.Opener.opened c.open_all.new.files) c.args.starts.now c.compile_with_starts.new.starts (g.S.Sink.state c.args.sink.now)
-    (g.S.Sink.state c.write_fewer.new.sink) (all_remaining g.O.Opened.Feed.state c.in_ok-feeds.feeds.items) c.args.settings
-    c.in_ok-instance.field-0
-    c.in_ok-feeds.ensures.opened c.in_ok-instance.ensures.compiles.done
+    let read = was_read (record {
+      plan = c.args.plan.now;
+      formulas = formulas_of c.args.destinations.now;
+      zones = map string_bytes c.args.zones.now;
+      settings = c.args.settings;
+    }) (run_state (g.O.Opener.opened c.args.files.now) c.args.starts.now (g.S.Sink.state c.args.sink.now))
+    (run_state (g.O.Opener.opened c.open_all.new.files) c.compile_with_starts.new.starts (g.S.Sink.state c.write_fewer.new.sink)) (all_remaining g.O.Opened.Feed.state c.in_ok-feeds.feeds.items)
+    c.in_ok-instance.field-0 c.in_ok-feeds.ensures.opened c.in_ok-instance.ensures.compiles.done
     (subst (λ n. AreSpent (c.args.settings.valuers + n) c.compile_with_starts.new.starts) (sym many) c.in_ok-instance.ensures.spends.started) in (
       c.in_ok-instance.field-0.instance,
       record { read = read; written = c.in_ok-counts.ensures.written },

@@ -1,0 +1,22 @@
+-- What a command finds and leaves.
+use Rattle.std.specs.Prelude.{ℕ, Bool, List}
+use Rattle.devices.specs.files.Opening.{Opening}
+use Rattle.run_threads.specs.Starts.{StartsView}
+use Rattle.command_io.specs.FaultLine.{IsDoneOrRefused}
+use Rattle.command_io.specs.declared.refused.Refused.{Refused}
+
+pub record World : Type 0 where
+  -- whether created files report their content
+  pub reports : Bool
+  -- the requests to open files so far, and the paths of the slots that were made
+  pub opened : List Opening
+  pub made : List (List ℕ)
+  -- the thread starts
+  pub starts : StartsView
+  -- the text for standard output, and the lines for standard error
+  pub text : List ℕ
+  pub lines : List ℕ
+
+-- how a command ends that turned the world `old` into `new`, by what it then has done, or why it failed
+abbrev pub CommandEnds : (Done : (old new : World) → Type 0) → (Why : (old new : World) → Refused → Type 0) → (old new : World) → (status : ℕ) → Type 0
+CommandEnds Done Why old new status = IsDoneOrRefused (λ _ _. Done old new) (Why old new) old.text new.text old.lines new.lines status

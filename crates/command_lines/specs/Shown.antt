@@ -1,0 +1,19 @@
+-- What a program shows in place of what its arguments request.
+use Rattle.std.specs.Prelude.{◌≡◌, ◌⊎◌, ℕ}
+use Rattle.clap.specs.Words.{Text}
+use Rattle.clap.specs.declared.error.Error.{Error}
+use Rattle.command_lines.specs.CommandLine.{AppendsText, IsRefusal}
+use Rattle.command_lines.specs.declared.job.JobFault.{JobFault}
+use Rattle.command_lines.specs.declared.job.JobFault.TheVariants.{OutOfMemory, Line}
+
+-- an error of clap is shown: a rejection on the lines for standard error, with the status 2; the help or the version in the text for
+-- standard output, with the status 0
+abbrev pub ShowsError : Error → (text_old text_new lines_old lines_new : Text) → (status : ℕ) → Type 0
+ShowsError error text_old text_new lines_old lines_new status =
+    (IsRefusal error × (status ≡ 2) × AppendsText lines_old lines_new × (text_new ≡ text_old))
+    ⊎ ((IsRefusal error → ⊥) × (status ≡ 0) × AppendsText text_old text_new × (lines_new ≡ lines_old))
+
+-- refused memory is not shown
+abbrev pub ShowsFault : JobFault → (text_old text_new lines_old lines_new : Text) → (status : ℕ) → Type 0
+ShowsFault OutOfMemory text_old text_new lines_old lines_new status = ⊥
+ShowsFault (Line error) text_old text_new lines_old lines_new status = ShowsError error text_old text_new lines_old lines_new status

@@ -1,0 +1,9 @@
+use Rattle.thin_command.proofs.thin.thin.Goals as goal
+
+pub returns-in-Err-clause-ends : goal.returns-in-Err-clause-ends
+returns-in-Err-clause-ends g c = rw (← c.world.view_is) (record {
+  done = λ zero. absurd (c.report.ensures.fails zero);
+  quiet = λ zero. absurd (c.report.ensures.fails zero);
+  kept = λ bad. c.in-Err.ensures.kept;
+  refused = λ bad. (c.in-Err.refused, c.in-Err.ensures.refused, c.report.ensures.ends);
+})
