@@ -1,4 +1,4 @@
+pub mod Asked
 pub mod CommandLine
-pub mod Shown
 pub mod ThinLine
 pub mod inner

@@ -1,7 +1,7 @@
 //! Jobs that the arguments of a command line state.
 
 ghost use Rattle.std.specs.Prelude.{◌≡◌, ◌↔◌, string_bytes, IsFalse, IsTrue, IfOk, OnErr};
-ghost use Rattle.command_lines.specs.Shown.{ShowsFault};
+ghost use Rattle.command_lines.specs.Asked.{ShowsFault};
 ghost use Rattle.command_lines.specs.CommandLine.{AppendsText, IsEndedText, IsRefusal};
 
 use plan_parts::settings::Settings;

@@ -5,12 +5,12 @@
 //! counts.
 #![tactic(auto)]
 
-ghost use Rattle.std.specs.Prelude.{◌≡◌, string_bytes, IfErr, IfOk, OnErr};
+ghost use Rattle.std.specs.Prelude.{◌≡◌, ◌<◌, ◌≤◌, Err, length, map, string_bytes, IfErr, IfOk, OnErr};
 ghost use Rattle.command_io.specs.PlanFile.{IsNotBegun};
 ghost use Rattle.command_io.specs.World.{CommandEnds};
 ghost use Rattle.compile_command.specs.Printed.{IsNoInput, IsNotPrinted, PrintsInput};
 ghost use Rattle.compile_command.specs.Task.{IsNoTask, IsTaskDone, plan_in};
-ghost use Rattle.pitc.specs.Jobs.{CompilesFrom, IsNoCompileFrom};
+ghost use Rattle.pitc.specs.Jobs.{CompilesFrom, DoesArguments, IsNoCompileFrom, IsNothingDone, MakesNothing};
 ghost use Rattle.plan_parts.specs.PlanFormulas.{formulas_of_plan};
 ghost use Rattle.plan_parts.specs.formulas.Formula.{IsFormulaInRange};
 ghost use Rattle.plan_parts.specs.formulas.Worth.{worth};
@@ -102,12 +102,42 @@ fn work<I: Feed, T: Threads + Wait + Sync, O: Opener + Drop, F: FileSlots + Drop
     world: &mut World<'_, O, F, T>,
 ) -> Result<Ended<F::Slot>, Refused>
     requires unspent { world.old.starts ≡ none_spent world.old.starts.allowed }
+    ensures unusable { IfErr arguments (λ refused. (result ≡ Err refused) × (input.new ≡ input.old)
+        × (world.new ≡ world.old)) }
+    ensures printed { IfOk arguments (λ words. length words.items ≤ 1
+        → IfOk result (λ ended. CommandEnds (PrintsInput (I.state input.old) (I.state input.new))
+        (IsNotPrinted (I.state input.old) (I.state input.new)) world.old world.new ended.status)) }
+    ensures done { IfOk arguments (λ words. 1 < length words.items
+        → IfOk result (λ ended. DoesArguments O.Opened.state O.File.path
+        (map string_bytes words.items) ended.sinks world.old world.new ended.status)) }
+    ensures undone { IfOk arguments (λ words. 1 < length words.items
+        → IfErr result (IsNothingDone O.Opened.state (map string_bytes words.items)
+        world.old world.new)) }
+    ensures apart { IfOk arguments (λ words. 1 < length words.items → input.new ≡ input.old) }
 {
     let arguments = arguments?;
     if arguments.len() <= 1 {
         return print_model(alloc, input, world);
     }
-    match job(alloc, arguments.as_slice()) {
+    perform(alloc, arguments.as_slice(), world)
+}
+
+// Does what the arguments after the program's name state.
+fn perform<T: Threads + Wait + Sync, O: Opener + Drop, F: FileSlots + Drop>(
+    alloc: Global,
+    arguments: &[String],
+    world: &mut World<'_, O, F, T>,
+) -> Result<Ended<F::Slot>, Refused>
+    requires unspent { world.old.starts ≡ none_spent world.old.starts.allowed }
+    ensures done { IfOk result (λ ended. DoesArguments O.Opened.state O.File.path
+        (map string_bytes arguments.now) ended.sinks world.old world.new ended.status) }
+    ensures undone { IfErr result (IsNothingDone O.Opened.state
+        (map string_bytes arguments.now) world.old world.new) }
+    ensures still { OnErr result (MakesNothing world.old world.new
+        × (world.new.text ≡ world.old.text) × (world.new.lines ≡ world.old.lines)) }
+    ensures settled { AreSettled world.old.starts world.new.starts }
+{
+    match job(alloc, arguments) {
         Ok(Job::Compile(run)) => compile(alloc, run, world),
         Ok(Job::Check { base }) => {
             let status = check(

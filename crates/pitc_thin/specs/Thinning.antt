@@ -1,15 +1,19 @@
 -- What `pitc_thin` does for its arguments.
 use Rattle.std.specs.Prelude.{◌≡◌, ℕ, List, [], ◌∷◌, ◌++◌, Option, Some, None, map, string_bytes}
-use Rattle.command_io.specs.PlanFile.{IsPlanAt}
+use Rattle.command_io.specs.PlanFile.{IsNotBegun, IsPlanAt}
 use Rattle.command_io.specs.RunState.{inputs_of_plan, run_state}
 use Rattle.command_io.specs.World.{CommandEnds, World}
 use Rattle.command_io.specs.declared.refused.Refused.{Refused}
+use Rattle.command_io.specs.declared.refused.Refused.TheVariants.{Run}
+use Rattle.command_lines.specs.Asked.{DoesAsked, ShowsFault}
+use Rattle.command_lines.specs.ThinLine.{StatesRun, thin_program}
 use Rattle.command_lines.specs.declared.job.RunArguments.{RunArguments}
 use Rattle.devices.specs.feeds.FeedState.{FeedState}
 use Rattle.devices.specs.files.Opening.{Opening}
 use Rattle.devices.specs.sinks.FileSinkView.{FileSinkView, file_sink_state, unbegun}
 use Rattle.devices.specs.sinks.SinkState.{SinkState}
 use Rattle.plan_parts.specs.Plan.{PlanParts}
+use Rattle.refusals.specs.declared.refusal.Refusal.TheVariants.{OutOfMemory}
 use Rattle.thin_command.specs.Thin.{IsNotThinned, TellsThinned}
 
 -- by the states of feeds of files, the arguments, and the sink before and after
@@ -30,7 +34,10 @@ module _ {F : Type 0} (state : F → FeedState) (run : RunArguments) (sink_old s
     pub why : IsNotThinned (inputs_of_plan plan (map string_bytes run.zones.items) run.settings) (run_state between old.starts sink_old)
         (run_state new.opened new.starts sink_new) state refused
 
--- by the states of feeds of files
+-- nothing but the text and the lines changed
+abbrev pub AsksNothing : (old new : World) → Type 0
+AsksNothing old new = (new.opened ≡ old.opened) × (new.made ≡ old.made) × (new.starts ≡ old.starts)
+
 module _ {F : Type 0} (state : F → FeedState) where
   -- exactly one slot was made, for FILE, and this is how the command ended with the sink of this slot
   abbrev pub Thins : RunArguments → Option FileSinkView → (old new : World) → (status : ℕ) → Type 0
@@ -39,3 +46,15 @@ module _ {F : Type 0} (state : F → FeedState) where
       (new.made ≡ old.made ++ string_bytes run.out ∷ [])
       × CommandEnds (ThinsFrom state run (file_sink_state (unbegun old.reports (string_bytes run.out))) (file_sink_state sink))
       (IsNotThinnedFrom state run (file_sink_state (unbegun old.reports (string_bytes run.out))) (file_sink_state sink)) old new status
+
+  -- what was done for arguments, by the sink that was made
+  abbrev pub DoesArguments : List (List ℕ) → Option FileSinkView → (old new : World) → (status : ℕ) → Type 0
+  DoesArguments arguments sink old new status =
+      DoesAsked thin_program (StatesRun arguments) (λ run. Thins run sink old new status)
+      (λ fault. ShowsFault fault old.text new.text old.lines new.lines status × AsksNothing old new) arguments
+
+  -- why nothing was done for them: the plan file has no plan, or memory was refused
+  abbrev pub IsNothingDone : List (List ℕ) → (old new : World) → Refused → Type 0
+  IsNothingDone arguments old new refused =
+      DoesAsked thin_program (StatesRun arguments) (λ run. IsNotBegun state (string_bytes run.plan) old.opened new.opened refused)
+      (λ fault. (refused ≡ Run OutOfMemory) × (new.opened ≡ old.opened) × (new.made ≡ old.made)) arguments

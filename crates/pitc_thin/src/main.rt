@@ -8,7 +8,7 @@ ghost use Rattle.command_io.specs.PlanFile.{IsNotBegun};
 ghost use Rattle.command_io.specs.RunState.{inputs_of_plan, run_state};
 ghost use Rattle.command_io.specs.World.{CommandEnds};
 ghost use Rattle.devices.specs.sinks.FileSinkView.{file_sink_state, unbegun};
-ghost use Rattle.pitc_thin.specs.Thinning.{Thins};
+ghost use Rattle.pitc_thin.specs.Thinning.{DoesArguments, IsNothingDone, Thins};
 ghost use Rattle.plan_parts.specs.formulas.Formula.{IsFormulaInRange};
 ghost use Rattle.plan_parts.specs.formulas.Worth.{worth};
 ghost use Rattle.run_threads.specs.Starts.{none_spent, AreSettled};
@@ -102,7 +102,26 @@ fn work<T: Threads + Wait + Sync, O: Opener + Drop, F: FileSlots + Drop>(
     requires unspent { world.old.starts ≡ none_spent world.old.starts.allowed }
 {
     let arguments = arguments?;
-    match thin_run(alloc, arguments.as_slice()) {
+    perform(alloc, arguments.as_slice(), world)
+}
+
+// Does what the arguments state, which begin with the program's name.
+fn perform<T: Threads + Wait + Sync, O: Opener + Drop, F: FileSlots + Drop>(
+    alloc: Global,
+    arguments: &[String],
+    world: &mut World<'_, O, F, T>,
+) -> Result<Ended<F::Slot>, Refused>
+    requires unspent { world.old.starts ≡ none_spent world.old.starts.allowed }
+    ensures done { IfOk result (λ ended. DoesArguments O.Opened.state
+        (map string_bytes arguments.now) ended.sink world.old world.new ended.status) }
+    ensures undone { IfErr result (IsNothingDone O.Opened.state
+        (map string_bytes arguments.now) world.old world.new) }
+    ensures still { OnErr result ((world.new.made ≡ world.old.made)
+        × (world.new.starts ≡ world.old.starts) × (world.new.text ≡ world.old.text)
+        × (world.new.lines ≡ world.old.lines)) }
+    ensures settled { AreSettled world.old.starts world.new.starts }
+{
+    match thin_run(alloc, arguments) {
         Ok(run) => thin_from(alloc, run, world),
         Err(fault) => {
             let status = append_fault(alloc, &fault, &mut world.text, &mut world.lines)?;

@@ -1,10 +1,17 @@
--- What a program shows in place of what its arguments request.
-use Rattle.std.specs.Prelude.{◌≡◌, ◌⊎◌, ℕ}
-use Rattle.clap.specs.Words.{Text}
+-- What a program does for its arguments.
+use Rattle.std.specs.Prelude.{◌≡◌, ◌⊎◌, ℕ, List, []}
+use Rattle.clap.specs.Words.{App, Text, fault_of}
 use Rattle.clap.specs.declared.error.Error.{Error}
-use Rattle.command_lines.specs.CommandLine.{AppendsText, IsRefusal}
+use Rattle.command_lines.specs.CommandLine.{AppendsText, IsNoMemoryLine, IsRefusal, RefusesBy}
 use Rattle.command_lines.specs.declared.job.JobFault.{JobFault}
 use Rattle.command_lines.specs.declared.job.JobFault.TheVariants.{OutOfMemory, Line}
+
+-- the arguments, which begin with the program's name, state something that `Does` holds for; or they are rejected, or request help or
+-- the version, and `Shows` holds for the fault
+abbrev pub DoesAsked : {A : Type 0} → App → (States Does : A → Type 0) → (Shows : JobFault → Type 0) → List Text → Type 0
+DoesAsked {A} app States Does Shows arguments =
+    ((asked : A) × (fault_of app arguments ≡ []) × States asked × Does asked)
+    ⊎ ((fault : JobFault) × RefusesBy app States arguments fault × IsNoMemoryLine fault × Shows fault)
 
 -- an error of clap is shown: a rejection on the lines for standard error, with the status 2; the help or the version in the text for
 -- standard output, with the status 0
