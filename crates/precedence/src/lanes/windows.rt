@@ -1,6 +1,6 @@
 //! Windows: the reduced lists of up to 64 blocks with one cone.
 
-ghost use Rattle.std.specs.Prelude.{◌≡◌, ◌<◌, ◌^◌, ℕ, true, [], IfOk, IsTrue, OnOk, length, slice_index, slice_index_or};
+ghost use Rattle.std.specs.Prelude.{◌≡◌, ◌↔◌, ◌<◌, ◌^◌, ℕ, true, [], IfOk, IsTrue, OnOk, length, slice_index, slice_index_or};
 ghost use Rattle.precedence.specs.inner.lanes.Bits.{has_bit};
 ghost use Rattle.precedence.specs.inner.lanes.Windows.{scene, AreRetained, AreWindows, HasLane, IsWindow, Scene, table_of};
 ghost use Rattle.precedence.specs.declared.lanes.strips.Window.{Window};
@@ -91,7 +91,7 @@ fn find_window(
 }
 
 fn has_lane(window: &Window, code: u64) -> bool
-    ensures { IsTrue result → HasLane window.now code }
+    ensures { IsTrue result ↔ HasLane window.now code }
 {
     window.base <= code
         && code - window.base < 64
