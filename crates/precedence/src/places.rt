@@ -3,18 +3,18 @@
 ghost use Rattle.std.specs.Prelude.{◌≡◌, ◌<◌, ◌≤◌, All, IfOk, length, map};
 ghost use Rattle.std.specs.List.Sorted.{IsStrictlyIncreasing};
 ghost use Rattle.precedence.specs.Codes.{place_code, place_codes};
-ghost use Rattle.precedence.specs.inner.Beside.{AreSpans};
+ghost use Rattle.precedence.specs.inner.Beside.{AreColumns};
 ghost use Rattle.precedence.specs.declared.places.code.TheConstants.{CODES};
 ghost use Rattle.plan_parts.specs.declared.ranges.TheConstants.{MAX_BLOCKS};
 
 use crate::places::code::code;
-use crate::places::spans::{is_sparse, spans_of};
+use crate::places::columns::{columns_of, is_sparse};
 use plan_parts::block::Block;
 use std::alloc::{AllocError, Global};
 
 pub mod code;
-pub mod span;
-pub mod spans;
+pub mod column;
+pub mod columns;
 pub mod start_of;
 
 /// The codes of all blocks of a model in the order of their identifiers.
@@ -22,13 +22,13 @@ pub mod start_of;
 pub struct Places {
     pub codes: Vec<u64>,
     /// The columns of each chunk of identifiers, a bit for each column.
-    pub spans: Vec<u128>,
+    pub columns: Vec<u128>,
     /// Whether looking at the columns saves time.
     pub sparse: bool,
     pub ghost rising: { IsStrictlyIncreasing codes.items },
     pub ghost few: { length codes.items ≤ MAX_BLOCKS },
     pub ghost small: { All (λ c. c < CODES) codes.items },
-    pub ghost spanned: { AreSpans spans.items codes.items },
+    pub ghost spanned: { AreColumns columns.items codes.items },
 }
 
 /// Returns the codes and columns of blocks that are ordered by identifier.
@@ -38,11 +38,11 @@ pub fn places_of(alloc: Global, blocks: &[Block]) -> Result<Places, AllocError>
     ensures { IfOk result (λ places. places.codes.items ≡ place_codes blocks.now) }
 {
     let codes = codes_of(alloc, blocks)?;
-    let spans = spans_of(alloc, blocks)?;
+    let columns = columns_of(alloc, blocks)?;
     let sparse = is_sparse(codes.as_slice());
     Ok(Places {
         codes,
-        spans,
+        columns,
         sparse,
     })
 }

@@ -4,8 +4,8 @@ use Rattle.plan_parts.specs.declared.ranges.TheConstants.{GRID_CELLS}
 use Rattle.precedence.specs.inner.Rows.{is_in_row}
 use Rattle.precedence.specs.inner.lanes.Bits.{has_bit}
 use Rattle.precedence.specs.declared.places.code.TheConstants.{ROW}
-use Rattle.precedence.specs.declared.places.span.TheConstants.{COLUMN}
-use Rattle.precedence.specs.declared.places.spans.TheConstants.{CHUNK}
+use Rattle.precedence.specs.declared.places.column.TheConstants.{COLUMN}
+use Rattle.precedence.specs.declared.places.columns.TheConstants.{CHUNK}
 use Rattle.precedence.specs.declared.cones.cone_rows.Row.{Row}
 use Rattle.precedence.specs.declared.cones.cone_rows.Widths.{Widths}
 
@@ -19,9 +19,9 @@ pub record IsInColumns (columns code : ℕ) : Type 0 where
   pub bit : has_bit columns (x_of code / COLUMN) ≡ true
 
 -- the columns of each chunk have the blocks of the chunk
-abbrev pub AreSpans : List ℕ → List ℕ → Type 0
-AreSpans spans codes = (k m : ℕ) → k < length spans → k * CHUNK ≤ m → m < k * CHUNK + CHUNK → m < length codes
-    → IsInColumns (slice_index spans k) (slice_index codes m)
+abbrev pub AreColumns : List ℕ → List ℕ → Type 0
+AreColumns columns codes = (k m : ℕ) → k < length columns → k * CHUNK ≤ m → m < k * CHUNK + CHUNK → m < length codes
+    → IsInColumns (slice_index columns k) (slice_index codes m)
 
 -- the distance to the cell straight above or below, in the row of blocks nearest to a cone row's end
 abbrev pub middle : ℕ → ℕ

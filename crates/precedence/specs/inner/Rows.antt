@@ -60,7 +60,3 @@ pasts rows = map (λ row. row.past) rows
 -- the rows are in order
 abbrev pub AreInOrder : List Row → Type 0
 AreInOrder rows = (high : ℕ) × LieApart 0 rows high
-
--- the rows are in order, and none starts before `low`
-abbrev pub LieFrom : ℕ → List Row → Type 0
-LieFrom low rows = (high : ℕ) × LieApart low rows high

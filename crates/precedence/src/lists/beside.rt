@@ -5,8 +5,8 @@ ghost use Rattle.precedence.specs.inner.Beside.{IsBeside, IsNoWider, LeaveOut};
 ghost use Rattle.precedence.specs.inner.Rows.{is_in_row};
 ghost use Rattle.precedence.specs.inner.lanes.Bits.{has_bit};
 ghost use Rattle.precedence.specs.declared.cones.cone_rows.Row.{Row};
-ghost use Rattle.precedence.specs.declared.places.span.TheConstants.{COLUMN};
-ghost use Rattle.precedence.specs.declared.places.spans.TheConstants.{CHUNK};
+ghost use Rattle.precedence.specs.declared.places.column.TheConstants.{COLUMN};
+ghost use Rattle.precedence.specs.declared.places.columns.TheConstants.{CHUNK};
 ghost use Rattle.plan_parts.specs.declared.ranges.TheConstants.{GRID_CELLS};
 
 use crate::cones::cone_rows::Widths;
@@ -14,8 +14,8 @@ use crate::lanes::bits::{bits_between, seen_at};
 use crate::lists::row_runs::Hint;
 use crate::places::Places;
 use crate::places::code::ROW;
-use crate::places::span::COLUMN;
-use crate::places::spans::{CHUNK, FEW_ROWS};
+use crate::places::column::COLUMN;
+use crate::places::columns::{CHUNK, FEW_ROWS};
 use plan_parts::ranges::GRID_CELLS;
 
 // The largest width of a cone with blocks that are passed over.
@@ -211,8 +211,8 @@ fn lies_beside(places: &Places, sides: Sides, id: usize) -> bool
         → m < length places.now.codes.items
         → IsBeside sides.west sides.east (slice_index places.now.codes.items m) }
 {
-    match places.spans.get(id / CHUNK) {
-        Some(span) => seen_at(*span, sides.columns, 0) == 0,
+    match places.columns.get(id / CHUNK) {
+        Some(seen) => seen_at(*seen, sides.columns, 0) == 0,
         None => false,
     }
 }

@@ -8,13 +8,13 @@ use Rattle.precedence.proofs.lists.beside.lies_beside.Goals as goal
 pub returns-in-Some : goal.returns-in-Some
 returns-in-Some c = λ yes m low up within.
     let sides = c.args.sides in
-    let spans = c.args.places.now.spans.items in
+    let columns = c.args.places.now.columns.items in
     let code = get_or c.args.places.now.codes.items m 0 in
     let k = c.args.id / 64 in
     let value = c.deref.ensures.value in
     let found = c.in-Some.ensures.lookup.3 in
-    let lt : k < length spans = omega (arith, found.0, ap length value) in
-    let here : get_or spans k 0 ≡ c.in-Some.span.now = ap (λ xs. get_or xs k 0) (sym value) ∙ sym (found.1 0) in
+    let lt : k < length columns = omega (arith, found.0, ap length value) in
+    let here : get_or columns k 0 ≡ c.in-Some.seen.now = ap (λ xs. get_or xs k 0) (sym value) ∙ sym (found.1 0) in
     let h = subst (λ n. IsInColumns n code) here (c.args.places.now.spanned k m lt (omega (arith, low)) up within) in
     let x = x_of code in
     let same : x / 79 ≡ x / 79 + 0 = omega arith in

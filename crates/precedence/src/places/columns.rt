@@ -3,13 +3,13 @@
 ghost use Rattle.std.specs.Prelude.{◌≡◌, ◌/◌, ◌<◌, ℕ, true, IfOk, length, slice_index_or};
 ghost use Rattle.plan_parts.specs.declared.block.Block.{Block};
 ghost use Rattle.precedence.specs.Codes.{place_codes};
-ghost use Rattle.precedence.specs.inner.Beside.{AreSpans};
+ghost use Rattle.precedence.specs.inner.Beside.{AreColumns};
 ghost use Rattle.precedence.specs.inner.lanes.Bits.{has_bit};
-ghost use Rattle.precedence.specs.declared.places.span.TheConstants.{COLUMN};
+ghost use Rattle.precedence.specs.declared.places.column.TheConstants.{COLUMN};
 
 use crate::lanes::bits::{bits_between, joined};
 use crate::places::code::{BENCH, ROW};
-use crate::places::span::COLUMN;
+use crate::places::column::COLUMN;
 use plan_parts::block::Block;
 use std::alloc::{AllocError, Global};
 
@@ -36,20 +36,20 @@ pub fn is_sparse(codes: &[u64]) -> bool {
 }
 
 /// Returns the columns of each chunk of blocks.
-pub fn spans_of(alloc: Global, blocks: &[Block]) -> Result<Vec<u128>, AllocError>
-    ensures { IfOk result (λ spans. AreSpans spans.items (place_codes blocks.now)) }
+pub fn columns_of(alloc: Global, blocks: &[Block]) -> Result<Vec<u128>, AllocError>
+    ensures { IfOk result (λ columns. AreColumns columns.items (place_codes blocks.now)) }
 {
     let chunks = blocks.len() / CHUNK + 1;
-    let mut spans = Vec::with_capacity(alloc, chunks)?;
+    let mut columns = Vec::with_capacity(alloc, chunks)?;
     for k in 0..chunks {
         let start = k * CHUNK;
         let end = blocks.len().min(start + CHUNK);
-        spans.push(span_of(&blocks[start..end]))?;
+        columns.push(columns_in(&blocks[start..end]))?;
     }
-    Ok(spans)
+    Ok(columns)
 }
 
-fn span_of(blocks: &[Block]) -> u128
+fn columns_in(blocks: &[Block]) -> u128
     ensures { (k : ℕ) (d : Block) → k < length blocks.now → has_bit result ((slice_index_or blocks.now k d).x / COLUMN) ≡ true }
 {
     let mut columns = 0;
