@@ -9,7 +9,7 @@ ghost use Rattle.std.specs.Prelude.{◌≡◌, ◌<◌, ◌≤◌, Err, length, 
 ghost use Rattle.command_io.specs.PlanFile.{IsNotBegun};
 ghost use Rattle.command_io.specs.World.{CommandEnds};
 ghost use Rattle.compile_command.specs.Printed.{IsNoInput, IsNotPrinted, PrintsInput};
-ghost use Rattle.compile_command.specs.Task.{IsNoTask, IsTaskDone, plan_in};
+ghost use Rattle.compile_command.specs.Task.{AsksForNone, IsNoTask, IsTaskDone, plan_in};
 ghost use Rattle.pitc.specs.Jobs.{CompilesFrom, DoesArguments, IsNoCompileFrom, IsNothingDone, MakesNothing};
 ghost use Rattle.plan_parts.specs.PlanFormulas.{formulas_of_plan};
 ghost use Rattle.plan_parts.specs.formulas.Formula.{IsFormulaInRange};
@@ -107,6 +107,10 @@ fn work<I: Feed, T: Threads + Wait + Sync, O: Opener + Drop, F: FileSlots + Drop
     ensures printed { IfOk arguments (λ words. length words.items ≤ 1
         → IfOk result (λ ended. CommandEnds (PrintsInput (I.state input.old) (I.state input.new))
         (IsNotPrinted (I.state input.old) (I.state input.new)) world.old world.new ended.status)) }
+    ensures unread { IfOk arguments (λ words. length words.items ≤ 1
+        → IfErr result (IsNoInput (I.state input.old) (I.state input.new))) }
+    ensures unasked { IfOk arguments (λ words. length words.items ≤ 1
+        → AsksForNone world.old world.new) }
     ensures done { IfOk arguments (λ words. 1 < length words.items
         → IfOk result (λ ended. DoesArguments O.Opened.state O.File.path
         (map string_bytes words.items) ended.sinks world.old world.new ended.status)) }
@@ -114,6 +118,9 @@ fn work<I: Feed, T: Threads + Wait + Sync, O: Opener + Drop, F: FileSlots + Drop
         → IfErr result (IsNothingDone O.Opened.state (map string_bytes words.items)
         world.old world.new)) }
     ensures apart { IfOk arguments (λ words. 1 < length words.items → input.new ≡ input.old) }
+    ensures still { OnErr result (MakesNothing world.old world.new
+        × (world.new.text ≡ world.old.text) × (world.new.lines ≡ world.old.lines)) }
+    ensures settled { AreSettled world.old.starts world.new.starts }
 {
     let arguments = arguments?;
     if arguments.len() <= 1 {

@@ -3,7 +3,7 @@
 //! It reads a plan and its zone files like `pitc compile`, and writes one precedence file.
 #![tactic(auto)]
 
-ghost use Rattle.std.specs.Prelude.{◌≡◌, ◌++◌, [], ◌∷◌, map, string_bytes, IfErr, IfOk, OnErr, OnOk};
+ghost use Rattle.std.specs.Prelude.{◌≡◌, ◌++◌, [], ◌∷◌, Err, map, string_bytes, IfErr, IfOk, OnErr, OnOk};
 ghost use Rattle.command_io.specs.PlanFile.{IsNotBegun};
 ghost use Rattle.command_io.specs.RunState.{inputs_of_plan, run_state};
 ghost use Rattle.command_io.specs.World.{CommandEnds};
@@ -100,6 +100,15 @@ fn work<T: Threads + Wait + Sync, O: Opener + Drop, F: FileSlots + Drop>(
     world: &mut World<'_, O, F, T>,
 ) -> Result<Ended<F::Slot>, Refused>
     requires unspent { world.old.starts ≡ none_spent world.old.starts.allowed }
+    ensures unusable { IfErr arguments (λ refused. (result ≡ Err refused) × (world.new ≡ world.old)) }
+    ensures done { IfOk arguments (λ words. IfOk result (λ ended. DoesArguments O.Opened.state
+        (map string_bytes words.items) ended.sink world.old world.new ended.status)) }
+    ensures undone { IfOk arguments (λ words. IfErr result (IsNothingDone O.Opened.state
+        (map string_bytes words.items) world.old world.new)) }
+    ensures still { OnErr result ((world.new.made ≡ world.old.made)
+        × (world.new.starts ≡ world.old.starts) × (world.new.text ≡ world.old.text)
+        × (world.new.lines ≡ world.old.lines)) }
+    ensures settled { AreSettled world.old.starts world.new.starts }
 {
     let arguments = arguments?;
     perform(alloc, arguments.as_slice(), world)
