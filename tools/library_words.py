@@ -58,6 +58,7 @@ LIBRARY = {
     ("◌/◌", "◌%◌"): "their quotient, rounded down, and its remainder; n / 0 is 0 and n % 0 is n",
     ("◌<◌", "◌≤◌"): "less than, and at most",
     ("min",): "the smaller of two natural numbers",
+    ("Bor",): "references; `now` is what one shows",
     ("nat_lt", "ltb"): "whether one natural number is less than another, as a Bool",
     ("nat_le", "leb"): "whether it is at most the other",
     ("nat_eq", "eqb", "◌==◌"): "whether they are the same",
