@@ -74,7 +74,7 @@ def test_another_program_in_the_path_is_not_run(top, other):
 def test_a_built_program_that_does_not_run_is_rejected(top, other):
     (top / "crates/pitc/out").mkdir(parents=True)
     (other / "pitc").rename(top / "crates/pitc/out/pitc")
-    assert "does not run here: build it anew" in rejected_in_a_line(ended(top))
+    assert "does not run here: build it again" in rejected_in_a_line(ended(top))
 
 
 def test_packages_that_are_missing_are_named(top, tmp_path):
