@@ -22,7 +22,7 @@
         command -v pit-tools > /dev/null || refuse "no pit-tools is here or installed: see docs/install.md"
         pit-tools --version > /dev/null 2>&1 ||
             refuse "pit-tools needs a python3 with pandas, numpy, scipy, matplotlib and openpyxl: see docs/install.md"
-        mkdir work 2> /dev/null || refuse "cannot make the folder work here: is there one already?"
+        mkdir work 2> /dev/null || refuse "cannot make the folder work here: if there is one, remove it or go elsewhere"
         if cd work && pit-tools deposit &&
             pitc compile --plan deposit.plan --out deposit deposit-oxide.csv deposit-west.csv deposit-east.csv >&3; then
             printf %s "$PATH"

@@ -327,7 +327,7 @@ def closure(roots: List[Piece]) -> Set[Piece]:
 
 def unknown(piece: Piece) -> Set[str]:
     """Returns what a definition or a clause contains besides variables, known words, numbers and symbols of the language."""
-    said, names = piece, {*used(piece), *piece.names, *library_words.SIGNS}
+    said, names = piece, {*used(piece), *piece.names, *library_words.SYMBOLS}
     if is_code(piece.path):
         code = re.sub("//.*", "", piece.text)
         said = piece._replace(text=" ".join(clause for _, clause in CLAUSE.findall(code)))

@@ -130,7 +130,7 @@ def outcome_of(ran: Ran, may: May, outcomes: List[Row]) -> Row:
     if not may.inputs and not may.is_stream:
         return dict.fromkeys(SOME, "none")
     for row in outcomes:
-        if may.command in row["command"].split(", ") and int(row["status"]) == ran.status and ran.line.startswith(row["line"]):
+        if may.command in row["command"].split(", ") and str(ran.status) in row["status"].split(", ") and ran.line.startswith(row["line"]):
             return row
     return {}
 

@@ -2,7 +2,7 @@
  *
  * FAULT=CALL:N:CODE returns this error for the Nth call of open, read, write, close or pthread_create;
  * the code 0 reads or writes a single byte. A close that returns an error still closes the file. The
- * trace shows an error by a write to the descriptor TOLD, which is never open.
+ * trace shows an error by a write to the descriptor REPORTS, which is never open.
  *
  * WRONG=MODE does around these calls what a wrong body of code without a contract could do. */
 #define _GNU_SOURCE
@@ -20,7 +20,7 @@
 #include <sys/syscall.h>
 #include <time.h>
 #include <unistd.h>
-enum { TOLD = 1023, MUCH = 50000000 };
+enum { REPORTS = 1023, MUCH = 50000000 };
 static const char *mode = "";
 static char what[32];
 static long nth, code;
@@ -40,7 +40,7 @@ static int is_hit(const char *call) { return !strcmp(what, call) && ++calls == n
 static long fail(const char *call, const char *args) {
     char text[4400];
     int length = snprintf(text, sizeof text, "%s %ld %s", call, code, args);
-    syscall(SYS_write, TOLD, text, length);
+    syscall(SYS_write, REPORTS, text, length);
     errno = code;
     return -1;
 }

@@ -132,4 +132,4 @@ DEFAULTS = [
 ]
 
 # The words and symbols of the language in definitions.
-SIGNS = set("→ × λ ¬ ⊥ = _ ← pub abbrev unfoldable record data where module let in do Type Unit ℓ κ".split())
+SYMBOLS = set("→ × λ ¬ ⊥ = _ ← pub abbrev unfoldable record data where module let in do Type Unit ℓ κ".split())

@@ -11,7 +11,7 @@ from rows import driver
 from shared import TOP
 
 # The descriptor that the malloc reports to.
-TOLD = 199
+REPORTS = 199
 
 
 def compiler():
@@ -43,12 +43,12 @@ def result(program, library, trial, nth=0):
     allocation, and for each thread `start`, with the size of the last allocation before.
     """
     reads, writes = os.pipe()
-    os.dup2(writes, TOLD, inheritable=True)
+    os.dup2(writes, REPORTS, inheritable=True)
     os.close(writes)
     surroundings = dict(os.environ, LD_PRELOAD=library, REFUSE_NTH=str(nth))
     try:
-        given = driver.result(program, trial, env=surroundings, pass_fds=[TOLD])
+        given = driver.result(program, trial, env=surroundings, pass_fds=[REPORTS])
     finally:
-        os.close(TOLD)
+        os.close(REPORTS)
     with open(reads, "rb") as pipe:
         return given, [(word, int(size)) for word, size in map(bytes.split, pipe)]

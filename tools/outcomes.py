@@ -232,5 +232,6 @@ class Judge:
         settings = {"valuers": outcome.valuers, "capacity": CAPACITY}
         lefts = chain(Made("Some", (text,)) for text in each(texts))
         fails = Function(1, lambda file: file == outcome.failed)
-        return bool(word("pit_compile.Run", "Runs", plan, word("plan_parts.PlanFormulas", "formulas_of_plan", plan), settings, lefts, fails, STARTS,
-                         self.sinks(UNTOUCHED), self.sinks(outcome.sinks), outcome.result))
+        run = {"plan": plan, "formulas": word("plan_parts.PlanFormulas", "formulas_of_plan", plan), "settings": settings, "remainders": lefts,
+               "starts": STARTS}
+        return bool(word("pit_compile.Run", "Runs", run, fails, self.sinks(UNTOUCHED), self.sinks(outcome.sinks), outcome.result))

@@ -8,6 +8,7 @@ values of `trying`.
 """
 import functools
 import glob
+import itertools
 import os
 import re
 from typing import Any, Callable, Dict, Iterator, List, NamedTuple, Optional, Tuple
@@ -19,12 +20,12 @@ TOKEN = re.compile(r'"[^"]*"|[(){};,]|\.\w+(?<=[)\w])|[^\s(){};,"]+')
 BINDING = {"^": 80, "*": 70, "/": 70, "%": 70, "*ℤ": 70, "+": 65, "-": 65, "+ℤ": 65, "-ℤ": 65, "∷": 60, "++": 55, "==": 50, "&&": 35, "||": 30,
            "≡": 20, "≢": 20, "<": 20, "≤": 20, "×": 15, "⊎": 12, ">>=": 10, "↔": 8, "→": 5}
 TO_THE_RIGHT = {"∷", "^", "×", "⊎", "→"}
-SIGNS = {"+": "({} + {})", "*": "({} * {})", "^": "({} ** {})", "-": "minus({}, {})", "/": "over({}, {})", "%": "rest({}, {})",
+FORMS = {"+": "({} + {})", "*": "({} * {})", "^": "({} ** {})", "-": "minus({}, {})", "/": "over({}, {})", "%": "rest({}, {})",
          "+ℤ": "({} + {})", "-ℤ": "({} - {})", "*ℤ": "({} * {})", "∷": "({}, {})", "++": "joined({}, {})", "==": "({} == {})",
          "&&": "({} and {})", "||": "({} or {})", "≡": "same({}, {})", "≢": "(not same({}, {}))", "<": "({} < {})", "≤": "({} <= {})",
          "×": "({} and {})", "⊎": "({} or {})", "↔": "({} == {})", "→": "(not {} or {})"}
 # The types of fields that name a value to which a statement refers; its other fields are statements.
-DATA = {"ℕ", "List", "Option", "Bool"}
+DATA = {"ℕ", "List", "Option", "Bool", "F", "FeedState", "GatheredView", "Instance", "PlanParts", "World"}
 # The constructors of numbers and truth values: as a value, as a test, and the value inside.
 NUMBERS = {"zero": ("0", "{} == 0", ""), "suc": ("({} + 1)", "{} > 0", "{} - 1"), "pos": ("{}", "{} >= 0", "{}"),
            "negsuc": ("(-{} - 1)", "{} < 0", "-{} - 1"), "true": ("True", "{} is True", ""), "false": ("False", "{} is False", "")}
@@ -39,10 +40,10 @@ class Made(NamedTuple):
 
 
 class Function:
-    """A function of this number of arguments, and the arguments so far."""
+    """A function of this number of arguments, the arguments so far, and their names if a definition file names them."""
 
-    def __init__(self, count: int, call: Callable, held: Tuple[Any, ...] = ()):
-        self.count, self.call, self.held = count, call, held
+    def __init__(self, count: int, call: Callable, held: Tuple[Any, ...] = (), names: Tuple[str, ...] = ()):
+        self.count, self.call, self.held, self.names = count, call, held, names
 
 
 # A proof in a field: its content does not matter.
@@ -171,7 +172,7 @@ class Reader:
             while self.peek() != ":":
                 names.append(self.take())
             self.take(":")
-            kind = told_type(self.term())
+            kind = type_text(self.term())
             found += [(name, kind) for name in names]
             self.take(")")
         return ("each" if self.take() == "→" else "some"), found, self.term()
@@ -244,37 +245,97 @@ class Reader:
         return found
 
 
-def told_type(term) -> str:
+def type_text(term) -> str:
     """Reads a type as it is written."""
     if term[0] == "call":
-        return " ".join([told_type(term[1]), *(f"({part})" if " " in part else part for part in map(told_type, term[2]))])
-    return f"{told_type(term[2])} {term[1]} {told_type(term[3])}" if term[0] == "sign" else str(term[1])
+        return " ".join([type_text(term[1]), *(f"({part})" if " " in part else part for part in map(type_text, term[2]))])
+    return f"{type_text(term[2])} {term[1]} {type_text(term[3])}" if term[0] == "sign" else str(term[1])
+
+
+def names_in(term) -> set:
+    """Returns the names that a term uses, without their fields."""
+    if isinstance(term, tuple) and term[:1] == ("name",):
+        return {term[1].split(".")[0]}
+    return set().union(*map(names_in, term)) if isinstance(term, (tuple, list)) else set()
+
+
+def parts_of(said) -> List:
+    """Returns the statements that one statement joins by `×`."""
+    return [*parts_of(said[2]), *parts_of(said[3])] if said[:2] == ("sign", "×") else [said]
+
+
+def narrowed(bound: List[Tuple[str, str]], parts: List):
+    """Returns the statement that these parts hold for some values, with each part as soon as all values that it uses are named."""
+    later = {name for name, _ in bound}
+    now = [part for part in parts if not later & names_in(part)]
+    if bound:
+        now.append(("some", bound[:1], narrowed(bound[1:], [part for part in parts if later & names_in(part)])))
+    return functools.reduce(lambda said, part: ("sign", "×", part, said), reversed(now)) if now else ("name", "Unit")
 
 
 # Pages
 
 
-class Page:
-    """A definition file: the clauses of its functions, its variants, and what it imports by which name."""
+def parameters_of(head: str) -> List[str]:
+    """Returns the names that a head binds in parentheses."""
+    found, depth = [], 0
+    for part in re.findall(r"\(\w[\w ]* : |[(){}]", head):
+        if part[0] in "({":
+            found += part[1:-3].split() if depth == 0 and len(part) > 1 else []
+            depth += 1
+        else:
+            depth -= 1
+    return found
 
-    def __init__(self, path: str):
-        self.name = ".".join(["Rattle", path.split("/")[1], "specs", *path[: -len(".antt")].split("/")[3:]])
+
+class Page:
+    """A definition file: the clauses of its functions, its variants, and what it imports by which name. The words of a module get the
+    parameters of the module before their own; within it, other words of it omit them."""
+
+    def __init__(self, name: str):
+        self.name = name
         self.clauses: Dict[str, List[List[str]]] = {}
         self.statements: Dict[str, Tuple[List[str], List[List[str]]]] = {}
         self.variants: set = set()
         self.brought: Dict[str, Tuple[str, str]] = {}
         self.others: Dict[str, str] = {}
+        # For each word of a module its parameters, each with the number of the module.
+        self.modules: Dict[str, List[Tuple[int, str]]] = {}
+        self.count = 0
+
+    @classmethod
+    def of_file(cls, path: str) -> "Page":
+        page = cls(".".join(["Rattle", path.split("/")[1], "specs", *path[: -len(".antt")].split("/")[3:]]))
+        page.take_lines([line for line in shared.read(path).splitlines() if line.strip() and not re.match(r"\s*--", line)], [])
+        return page
+
+    @classmethod
+    def of_contract(cls, path: str, function: str, names: str) -> "Page":
+        """Returns the clauses of a function's contract as words, with these names as their parameters."""
+        page, text = cls(f"{path}: {function}"), shared.read(path)
+        for line in re.findall(r"(?m)^ghost (use .*);$", text):
+            page.take([line], [])
+        contract = re.search(rf"(?ms)^fn {function}\b.*?^\{{$", text)
+        for name, clause in re.findall(r"(?ms)^    ensures (\w+) \{ (.*?) \}$", contract[0] if contract else ""):
+            page.clauses[name] = [[f"{name} {names} = {clause}"]]
+        return page
+
+    def take_lines(self, lines: List[str], bound: List[Tuple[int, str]]) -> None:
+        """Records the content of a file, or of a module with these parameters."""
         chunks: List[List[str]] = []
-        for line in shared.read(path).splitlines():
-            if line.startswith("--") or not line.strip() or re.match(r"\s+--", line):
-                continue
+        for line in lines:
             if line[0] not in " })" or not chunks:
                 chunks.append([])
             chunks[-1].append(line)
         for chunk in chunks:
-            self.take(chunk)
+            if chunk[0].startswith("module _ "):
+                self.count += 1
+                inner = [(self.count, name) for name in parameters_of(chunk[0])]
+                self.take_lines([line[2:] for line in chunk[1:]], [*bound, *inner])
+            else:
+                self.take(chunk, bound)
 
-    def take(self, chunk: List[str]) -> None:
+    def take(self, chunk: List[str], bound: List[Tuple[int, str]]) -> None:
         """Records a clause, a type or an import."""
         head = chunk[0]
         if brought := re.match(r"(?:pub )?use (Rattle\.[\w.]+)(?:\.\{(.*)\}| as (\w+))$", head):
@@ -289,9 +350,20 @@ class Page:
         elif stated := re.match(r"pub record (\w+)((?:.|\n)*?) : Type 0 where\n((?:.|\n)*)", "\n".join(chunk)):
             name, parameters, fields = stated.groups()
             parts = [part.splitlines() for part in re.split(r"(?m)^  pub ", fields)[1:]]
-            self.statements[name] = [name for names in re.findall(r"\(([\w ]+) : ", parameters) for name in names.split()], parts
+            self.statements[name] = [*(name for _, name in bound), *parameters_of(parameters)], parts
+            self.modules[name] = bound
         elif not re.match(r"(?:(?:abbrev|unfoldable|pub) )*(?:use|mod|record|module|infix\w*|\S+ :)(?: |$)", head):
-            self.clauses.setdefault(self.defined_by(head), []).append(chunk)
+            name = self.defined_by(head)
+            self.clauses.setdefault(name, []).append(chunk)
+            self.modules[name] = bound
+
+    def words(self) -> List[str]:
+        """Returns the words that can be evaluated."""
+        return [*self.clauses, *(name for name, (parameters, _) in self.statements.items() if parameters)]
+
+    def text(self, name: str) -> str:
+        """Returns the text of a word."""
+        return "\n".join(itertools.chain(*self.clauses.get(name, []), *self.statements.get(name, ([], []))[1]))
 
     @staticmethod
     def defined_by(head: str) -> str:
@@ -304,7 +376,7 @@ class Pages:
     """All definition files, and their words as Python."""
 
     def __init__(self, library: Dict[str, Any]):
-        found = [Page(path) for path in sorted(glob.glob("crates/*/specs/**/*.antt", recursive=True))]
+        found = [Page.of_file(path) for path in sorted(glob.glob("crates/*/specs/**/*.antt", recursive=True))]
         self.pages = {page.name: page for page in found}
         self.library, self.ready, self.trying = library, {}, {}
         self.scope: Dict[str, Any] = {"Made": Made, "Function": Function, "applied": applied, "joined": joined, "minus": minus, "over": over,
@@ -319,6 +391,11 @@ class Pages:
         if not isinstance(one, Function) or one is other:
             return one == other
         return all(applied(one, name) == applied(other, name) for name in self.values_of("TextName"))
+
+    def named(self, name: str) -> str:
+        """Returns the complete name of the only definition file with this last name."""
+        page, = (page for page in self.pages if page.endswith(f".{name}"))
+        return page
 
     def word(self, page: str, name: str) -> Any:
         """Returns the value of a file's word."""
@@ -353,6 +430,18 @@ class Pages:
         brought = self.pages[page].brought.get(name)
         return self.source(*brought) if brought else None
 
+    def used(self, page: str, name: str) -> set:
+        """Returns the words that a word uses, also through others, each with its file."""
+        found, more = set(), [(page, name)]
+        while more:
+            page, name = more.pop()
+            for word in re.findall(r"\w+", self.pages[page].text(name)):
+                place = self.source(page, word)
+                if place and place not in found and place[0] in self.pages and place[1] in self.pages[place[0]].words():
+                    found.add(place)
+                    more.append(place)
+        return found
+
     def is_variant(self, page: str, name: str) -> bool:
         """Returns whether a word is a variant, by how the file names it."""
         first, _, rest_of_it = name.partition(".")
@@ -375,9 +464,9 @@ class Pages:
                 raise NameError(f"{name} of {page} is no word of the library that is defined here")
             return self.library[name]
         if name in self.pages[page].statements:
-            clauses = [Statement(self, page, *self.pages[page].statements[name])]
+            clauses = [Statement(self, page, name)]
         else:
-            clauses = [Clause(self, page, chunk) for chunk in self.pages[page].clauses[name]]
+            clauses = [Clause(self, page, name, chunk) for chunk in self.pages[page].clauses[name]]
         count = len(clauses[0].patterns)
         lines = [f"def it({', '.join(f'a{n}' for n in range(count))}):"]
         for clause in clauses:
@@ -390,8 +479,10 @@ class Pages:
 class Clause:
     """Returns a clause of a function: its patterns and its result, as Python."""
 
-    def __init__(self, pages: Pages, page: str, chunk: List[str]):
-        self.pages, self.page, self.steps = pages, page, []
+    numbers = itertools.count()
+
+    def __init__(self, pages: Pages, page: str, name: str, chunk: List[str]):
+        self.pages, self.page, self.bound, self.steps = pages, page, pages.pages[page].modules.get(name, []), []
         tokens = tokens_of(chunk)
         depth = middle = 0
         for at, token in enumerate(tokens):
@@ -404,6 +495,7 @@ class Clause:
             self.patterns = [left[2], left[3]]
         else:
             self.patterns = left[2] if left[0] == "call" else []
+        self.patterns = [*(("name", name) for _, name in self.bound), *self.patterns]
         self.body = Reader([token._replace(begins=token.begins and at > 0) for at, token in enumerate(tokens[middle + 1 :])]).term()
 
     def lines(self) -> List[str]:
@@ -411,6 +503,7 @@ class Clause:
         names: Dict[str, str] = {}
         for number, pattern in enumerate(self.patterns):
             self.match(pattern, f"a{number}", names)
+        self.parameters = [names[name] for _, name in self.bound]
         return ["    while True:", *(f"        {step}" for step in self.steps), f"        return {self.python(self.body, names)}"]
 
     def match(self, pattern, value: str, names: Dict[str, str]) -> None:
@@ -465,14 +558,14 @@ class Clause:
         return f"({self.python(yes, names)} if {self.python(test, names)} else {self.python(no, names)})"
 
     def as_let(self, names, name, value, body):
-        inner = {**names, name: f"l{len(names)}"}
+        inner = {**names, name: f"l{next(self.numbers)}"}
         return f"(lambda {inner[name]}: {self.python(body, inner)})({self.python(value, names)})"
 
     def as_function(self, names, bound, body):
         inner = dict(names)
-        for name in bound:
-            inner[name] = f"l{len(inner)}_{len(names)}"
-        return f"Function({len(bound)}, lambda {', '.join(inner[name] for name in bound)}: {self.python(body, inner)})"
+        arguments = [f"l{next(self.numbers)}" for _ in bound]
+        inner.update(zip(bound, arguments))
+        return f"Function({len(bound)}, lambda {', '.join(arguments)}: {self.python(body, inner)}, (), {tuple(bound)})"
 
     def as_not(self, names, said):
         return f"(not {self.python(said, names)})"
@@ -481,20 +574,25 @@ class Clause:
         return self.tried("all", names, bound, said)
 
     def as_some(self, names, bound, said):
-        return self.tried("any", names, bound, said)
+        if len(bound) == 1 and said[0] != "some":
+            return self.tried("any", names, bound, said)
+        while said[0] == "some":
+            bound, said = [*bound, *said[1]], said[2]
+        first, rest = bound[:1], bound[1:]
+        return self.tried("any", names, first, narrowed(rest, parts_of(said)))
 
     def tried(self, how, names, bound, said):
         """Returns a test of a statement about all, or any, values of these types."""
         inner = dict(names)
         loops = []
         for name, kind in bound:
-            inner[name] = f"l{len(inner)}_{len(names)}"
+            inner[name] = f"l{next(self.numbers)}"
             loops.append(f"for {inner[name]} in values_of({kind!r})")
         return f"{how}({self.python(said, inner)} {' '.join(loops)})"
 
     def as_sign(self, names, sign, left, right):
         terms = self.python(left, names), self.python(right, names)
-        return SIGNS[sign].format(*terms) if sign in SIGNS else f"applied({self.global_word(f'◌{sign}◌')}, {terms[0]}, {terms[1]})"
+        return FORMS[sign].format(*terms) if sign in FORMS else f"applied({self.global_word(f'◌{sign}◌')}, {terms[0]}, {terms[1]})"
 
     def as_name(self, names, name):
         first, *fields = name.split(".")
@@ -532,22 +630,30 @@ class Clause:
         if known is None:
             self.pages.scope["places"][owner, word] = known = key
             self.pages.scope[key] = lambda: self.pages.word(owner, word)
-        return f"{known}()"
+        common = self.common(word) if owner == self.page else []
+        return f"applied({known}(), {', '.join(common)})" if common else f"{known}()"
+
+    def common(self, word: str) -> List[str]:
+        """Returns the parameters of the modules that another word of the file is in as well."""
+        pairs = zip(self.bound, self.pages.pages[self.page].modules.get(word, []), self.parameters)
+        return [parameter for here, there, parameter in itertools.takewhile(lambda pair: pair[0] == pair[1], pairs)]
 
 
 class Statement(Clause):
     """A statement by its fields, some of which name a value that others refer to."""
 
-    def __init__(self, pages: Pages, page: str, parameters: List[str], fields: List[List[str]]):
-        self.pages, self.page, self.steps = pages, page, []
-        self.patterns, self.body = [("name", name) for name in parameters], ("name", "Unit")
-        for field in reversed(fields):
+    def __init__(self, pages: Pages, page: str, name: str):
+        parameters, fields = pages.pages[page].statements[name]
+        self.pages, self.page, self.bound, self.steps = pages, page, pages.pages[page].modules[name], []
+        self.patterns, bound, parts = [("name", name) for name in parameters], [], []
+        for field in fields:
             name, _, rest_of_it = field[0].partition(" : ")
             said = Reader([token._replace(begins=False) for token in tokens_of([rest_of_it, *field[1:]])]).term()
-            if told_type(said).split()[0] in DATA:
-                self.body = "some", [(name, told_type(said))], self.body
+            if type_text(said).split()[0] in DATA:
+                bound.append((name, type_text(said)))
             else:
-                self.body = "sign", "×", said, self.body
+                parts.append(said)
+        self.body = narrowed(bound, parts)
 
 
 def joined(left: Tuple, right: Tuple) -> Tuple:

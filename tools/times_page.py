@@ -49,16 +49,16 @@ def table(columns: Sequence[str], rows: Iterable[Sequence[object]]) -> List[str]
     return [head, "|" + "---|" * len(columns), *lines]
 
 
-def parts() -> dict:
-    """Returns the parts of the page, by their names."""
-    return dict(PART.findall(shared.read(os.path.join(shared.TOP, PAGE))))
+def parts(page: str = PAGE) -> dict:
+    """Returns the parts of a page, by their names."""
+    return dict(PART.findall(shared.read(os.path.join(shared.TOP, page))))
 
 
-def write_part(name: str, lines: Iterable[str]) -> None:
+def write_part(name: str, lines: Iterable[str], page: str = PAGE) -> None:
     """Replaces the part with this name by these lines."""
-    path = os.path.join(shared.TOP, PAGE)
+    path = os.path.join(shared.TOP, page)
     text = shared.read(path)
     part = re.compile(rf"(?ms)^(<!-- {name} -->\n)(?:.*?^<!-- end of {name} -->\n)?")
     if not part.search(text):
-        raise SystemExit(f"{PAGE} has no part {name}")
+        raise SystemExit(f"{page} has no part {name}")
     shared.write(path, part.sub(lambda found: found[1] + "\n".join([*lines, f"<!-- end of {name} -->\n"]), text))

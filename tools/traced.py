@@ -6,7 +6,7 @@ import subprocess
 from typing import Dict, Iterator, List, NamedTuple, Optional, Sequence, Tuple
 
 # A descriptor that no run has: tools/effects.c writes to it for which call it returns an error.
-TOLD = "1023"
+REPORTS = "1023"
 
 STRACE = ["strace", "-f", "-qq", "--seccomp-bpf", "-xx", "-s", "64", "-e", "signal=none"]
 
@@ -86,7 +86,7 @@ def calls_in(trace: str) -> List[Call]:
         assert done, line
         result = -1 if done[2] in ("?", "-1") else int(done[2], 0)
         call = Call(first, number, thread, name, done[1].strip(), result, done[3] or "")
-        if name == "write" and call.args.startswith(TOLD + ","):
+        if name == "write" and call.args.startswith(REPORTS + ","):
             call = fault_of(call, bytes_of(call.args.split('"')[1]))
             if call.name == "close":
                 # The previous call closed the file nevertheless.

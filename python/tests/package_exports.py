@@ -247,9 +247,9 @@ def share_exports() -> Iterable[Export]:
     yield Export("the same by a condition of one's own", {"a.csv": text.encode()},
                  {**words, "share": "if(TOPO == -99, 100, TOPO)/100"}, by_topo, within=(1, 0))
 
-    spell = {0: "AIR", 1: "Air", 2: " air "}
+    spellings = {0: "AIR", 1: "Air", 2: " air "}
     text = table("X,Y,Z,ROCK,AU,ZONE",
-                 lambda b: ",".join([*usual(b)[:3], spell[b.i % 3] if b.rock == "AIR" else b.rock,
+                 lambda b: ",".join([*usual(b)[:3], spellings[b.i % 3] if b.rock == "AIR" else b.rock,
                                      known(b.grade, 6, ""), b.zone]))
     yield Export("Air beside AIR in a filter", {"a.csv": text.encode()},
                  {**USUAL, "tonnes": "", "density": "2.65",

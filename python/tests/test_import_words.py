@@ -113,7 +113,7 @@ def test_what_cannot_be_right_stops_with_its_cause(tmp_path, lines, changed, mes
         imported(tmp_path, lines(), **changed)
 
 
-DOUBTS = [(lambda: mapped(3, lambda text: "2.7"), {}, "are they densities"),
+WARNINGS = [(lambda: mapped(3, lambda text: "2.7"), {}, "are they densities"),
           (lambda: mapped(3, lambda text: "2.70"), {}, "are they kilotonnes"),
           (lambda: mapped(3, lambda text: "76.5"), {}, "are lengths in feet"),
           (lambda: mapped(0, lambda text: str(int(text) // 10)), {"y": "Y/10", "z": "Z/10", "tonnes": "", "density": "T/1000"},
@@ -130,8 +130,8 @@ DOUBTS = [(lambda: mapped(3, lambda text: "2.7"), {}, "are they densities"),
                     for line in rows()], {}, "is only their ore counted")]
 
 
-@pytest.mark.parametrize("lines, changed, message", DOUBTS,
-                         ids=[message or "depths" for _, _, message in DOUBTS])
+@pytest.mark.parametrize("lines, changed, message", WARNINGS,
+                         ids=[message or "depths" for _, _, message in WARNINGS])
 def test_what_may_be_wrong_is_reported(tmp_path, lines, changed, message):
     warnings = imported(tmp_path, lines(), **changed).report.warnings
     pattern = message or "is z a depth"

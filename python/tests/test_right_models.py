@@ -112,12 +112,12 @@ def limits_for(plan_path: str, files: list[str], periods: int, right: Right) -> 
 
 def looked_at(text: str) -> list[str]:
     """Returns the lines after LOOK AT."""
-    behind = text.partition("LOOK AT\n")[2].split("\n\n")[0]
+    text_after = text.partition("LOOK AT\n")[2].split("\n\n")[0]
     return [line
-            for line in behind.splitlines() if line.startswith("- ") and "nothing unusual" not in line]
+            for line in text_after.splitlines() if line.startswith("- ") and "nothing unusual" not in line]
 
 
-def doubts_of(right: Right, folder, capsys) -> list[str]:
+def warnings_of(right: Right, folder, capsys) -> list[str]:
     (folder / "export.csv").write_text(export_of(right))
     words = "--x x --y y --z z --tonnes tonnes --zone zone --out from".split()
     if right.is_cut:
@@ -145,4 +145,4 @@ def doubts_of(right: Right, folder, capsys) -> list[str]:
 @pytest.mark.parametrize("right", RIGHT, ids=lambda right: right.name)
 def test_a_right_model_has_nothing_to_look_at(right, tmp_path, monkeypatch, capsys):
     monkeypatch.chdir(tmp_path)
-    assert doubts_of(right, tmp_path, capsys) == []
+    assert warnings_of(right, tmp_path, capsys) == []

@@ -103,13 +103,13 @@ def test_a_straight_wall_between_different_sides_is_computed_by_a_separate_formu
 
 #: Slopes in degrees to the east, west, north and south; a K and, of pits of so many benches, by how
 #: many degrees two programs found walls too steep with it and with K = height.
-TOLD = [
+REPORTED = [
     ((20, 10), (35, 55, 45, 45), 5, {13: (4.3, 1.9), 16: (3.9, 2.0), 17: (4.3, 3.0)}),
     ((30, 12), (60, 35, 35, 60), 10, {20: (5.1, 2.3)}),
 ]
 
 
-@pytest.mark.parametrize("size, degrees, K, found", TOLD)
+@pytest.mark.parametrize("size, degrees, K, found", REPORTED)
 def test_the_K_to_take_is_the_height_of_the_mine(size, degrees, K, found):
     """A smaller one may be as good for the greatest height, and is far too steep for others:
     LOOK AT reports the worst of them."""

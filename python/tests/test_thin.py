@@ -19,7 +19,7 @@ from pit_tools.plans.file import plan_of
 from pit_tools.plans.zone_files import read_zone_files
 
 
-def fewer_by_hand(precedence: sparse.csr_matrix) -> sparse.csr_matrix:
+def reduced_by_definition(precedence: sparse.csr_matrix) -> sparse.csr_matrix:
     """Returns for each list the blocks that are predecessors of no other one of it."""
     whole = precedence.toarray().astype(bool)
     left = [waits & ~whole[waits].any(axis=0) for waits in whole]
@@ -30,7 +30,7 @@ def with_thin(folder: Path, **words) -> tuple[str, str]:
     """The base of a deposit and its thin file; the precedence file is removed."""
     base = mines.deposit(folder, 1, (6, 5, 4), "lens", **{"K": 3, **words})
     whole = read_precedence(base + ".prec")
-    fewer = fewer_by_hand(whole)
+    fewer = reduced_by_definition(whole)
     assert fewer.nnz < whole.nnz
     write_precedence(fewer, base + ".thin")
     return base, base + ".thin"
@@ -47,7 +47,7 @@ def test_an_instance_is_read_with_a_thin_file_and_needs_no_other(tmp_path, capsy
     whole = read_instance(base)
     Path(base + ".prec").unlink()
     mine = read_instance(base, precedence=thin)
-    assert (mine.precedence != fewer_by_hand(whole.precedence)).nnz == 0
+    assert (mine.precedence != reduced_by_definition(whole.precedence)).nnz == 0
     assert printed_by(capsys, "read", base, "--prec", thin, "--out",
                    str(tmp_path / "copy")) == mine.counts() + "\n"
     assert (tmp_path / "copy.prec").read_bytes() == Path(thin).read_bytes()
@@ -157,7 +157,7 @@ def test_immediate_drops_what_the_rule_states_on_models_of_different_cones(tmp_p
     for seed in range(MODELS):
         whole = all_arcs_of(str(tmp_path / "m"), *cones_of(seed))
         left = closure.immediate(whole)
-        assert (left != fewer_by_hand(whole)).nnz == 0, seed
+        assert (left != reduced_by_definition(whole)).nnz == 0, seed
         dropped += whole.nnz - left.nnz
     assert dropped > 100 * MODELS
 
@@ -183,5 +183,5 @@ def test_the_file_of_the_program_is_read(pitc_thin, tmp_path, capsys, K):
     whole, left = read_precedence(base + ".prec"), read_precedence(base + ".thin")
     assert (done.stdout, done.stderr, done.returncode) == (f"rows {whole.shape[0]} arcs {left.nnz} "
                                                            f"of {whole.nnz}\n", "", 0)
-    assert (left != fewer_by_hand(whole)).nnz == 0
+    assert (left != reduced_by_definition(whole)).nnz == 0
     assert printed_by(capsys, "pit", base) == printed_by(capsys, "pit", base, "--prec", base + ".thin")

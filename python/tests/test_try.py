@@ -167,4 +167,4 @@ def test_recipes_begin_without_older_work(tmp_path):
                           cwd=tmp_path, env={"PATH": SYSTEM}, capture_output=True, text=True, check=False)
     assert done.stdout.splitlines() == ["rows 4157", f"NOTE: {MARK}", f"{tmp_path}/work", "deposit-east.csv", "deposit-oxide.csv",
                                         "deposit-west.csv", str(tmp_path)]
-    assert done.stderr == "begin.sh: cannot make the folder work here: is there one already?\n"
+    assert done.stderr == "begin.sh: cannot make the folder work here: if there is one, remove it or go elsewhere\n"

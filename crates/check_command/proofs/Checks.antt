@@ -7,7 +7,7 @@ use Rattle.devices.specs.declared.feeds.slurp.TheConstants.{LARGEST_LIMIT}
 use Rattle.devices.specs.feeds.ReadWhole.{FailsAsFed}
 use Rattle.text_lines.specs.declared.text_fault.TextFault.{TextFault}
 use Rattle.text_lines.specs.declared.text_fault.TextFile.{TextFile}
-use Rattle.check_command.specs.Checked.{AreReadBefore, FailsIn, IsCheckStatus, IsFoundIn, IsMissing, IsNotAsked, path_of}
+use Rattle.check_command.specs.Checked.{AreReadBefore, FailsIn, IsCheckStatus, IsFoundIn, IsMissing, IsUntried, path_of}
 use Rattle.check_command.specs.inner.CheckSteps.{CountsAll, HasTextWith}
 use Rattle.check_command.specs.inner.CountSteps.{counted_on, no_counts}
 use Rattle.check_command.proofs.CountedAll.{counted_all}
@@ -82,7 +82,7 @@ module _ (base : List ℕ) {F T : Type 0} (state : F → FeedState) (path : T �
       (why : Refused) → asked ≡ path_of base file → OpensFeed asked old new first → (opened : T) × (path opened ≡ asked)
       → (state feed).remaining ≡ remaining_after ((state feed).given - first.given) first.remaining
       → FailsAsFed LARGEST_LIMIT first (state feed) fault → why ≡ unread (source.Text file) fault
-      → FailsIn base state path file old new why ⊎ IsNotAsked old new why
+      → FailsIn base state path file old new why ⊎ IsUntried old new why
   unread_file file asked first old new feed fault why at opened there stands fails e =
       let all : (state feed).given - first.given ≡ (state feed).given = omega (arith, opened.given) in inl (
         first,
@@ -94,13 +94,13 @@ module _ (base : List ℕ) {F T : Type 0} (state : F → FeedState) (path : T �
   module _ (old new : List Opening) where
     -- an error of one file after those that were read is an error of all files
     pub found_in_file : (file : TextFile) (mid : List Opening) (why : Refused) → AreReadBefore base state path file old mid
-        → FailsIn base state path file mid new why ⊎ IsNotAsked mid new why → IsFoundIn base state path old new why
+        → FailsIn base state path file mid new why ⊎ IsUntried mid new why → IsFoundIn base state path old new why
     found_in_file file mid why read (inl h) = inl (file, record { mid = mid; before = read; fails = inl h })
     found_in_file file mid why read (inr h) =
         inr (inr (h.0, inl (file, subst (λ n. AreReadBefore base state path file old n) (sym h.1) read)))
 
     pub found_or_gone : (file : TextFile) (mid : List Opening) (why : Refused) → AreReadBefore base state path file old mid
-        → FailsIn base state path file mid new why ⊎ (IsMissing base file mid new why ⊎ IsNotAsked mid new why)
+        → FailsIn base state path file mid new why ⊎ (IsMissing base file mid new why ⊎ IsUntried mid new why)
         → IsFoundIn base state path old new why
     found_or_gone file mid why read (inl h) = inl (file, record { mid = mid; before = read; fails = inl h })
     found_or_gone file mid why read (inr (inl h)) = inl (file, record { mid = mid; before = read; fails = inr h })

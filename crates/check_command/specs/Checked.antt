@@ -24,8 +24,8 @@ abbrev pub path_of : List ℕ → TextFile → List ℕ
 path_of base file = path_to base (file_ending file)
 
 -- memory was refused, and no file was tried
-abbrev pub IsNotAsked : (old new : List Opening) → Refused → Type 0
-IsNotAsked old new refused = (refused ≡ Run OutOfMemory) × (new ≡ old)
+abbrev pub IsUntried : (old new : List Opening) → Refused → Type 0
+IsUntried old new refused = (refused ≡ Run OutOfMemory) × (new ≡ old)
 
 module _ (base : List ℕ) where
   -- the file could not be opened, which is no error for a `cpit`

@@ -1,7 +1,7 @@
 //! The check of an instance's files.
 
 ghost use Rattle.std.specs.Prelude.{◌≡◌, ◌≢◌, ◌≤◌, ◌⊎◌, ◌++◌, [], ◌∷◌, MatchOption, IfErr, IfOk, IfSome, OnErr, OnOk};
-ghost use Rattle.check_command.specs.Checked.{FailsIn, IsCheckStatus, IsFoundIn, IsFoundInOpenedFiles, IsMissing, IsNotAsked, ReportsFiles, ReportsOpenedFiles, path_of};
+ghost use Rattle.check_command.specs.Checked.{FailsIn, IsCheckStatus, IsFoundIn, IsFoundInOpenedFiles, IsMissing, IsUntried, ReportsFiles, ReportsOpenedFiles, path_of};
 ghost use Rattle.check_command.specs.inner.CheckSteps.{CountsAll, HasTextWith};
 ghost use Rattle.check_command.specs.inner.CountSteps.{counted_on};
 ghost use Rattle.devices.specs.files.Opening.{Unopened};
@@ -129,7 +129,7 @@ fn count_file<O: Opener>(
     ensures fault { IfErr result (λ refused. FailsIn base.now O.Opened.state O.File.path file
         (O.opened files.old) (O.opened files.new) refused
         ⊎ (IsMissing base.now file (O.opened files.old) (O.opened files.new) refused
-        ⊎ IsNotAsked (O.opened files.old) (O.opened files.new) refused)) }
+        ⊎ IsUntried (O.opened files.old) (O.opened files.new) refused)) }
 {
     match count_if_there(alloc, base, file, files, so_far)? {
         Some(answer) => Ok(answer),
@@ -155,7 +155,7 @@ fn count_if_there<O: Opener>(
         (λ counts. counts.blocks ≤ MAX_BLOCKS))) }
     ensures fault { IfErr result (λ refused. FailsIn base.now O.Opened.state O.File.path file
         (O.opened files.old) (O.opened files.new) refused
-        ⊎ IsNotAsked (O.opened files.old) (O.opened files.new) refused) }
+        ⊎ IsUntried (O.opened files.old) (O.opened files.new) refused) }
 {
     let path = format!(in alloc; "{base}.{file}")?;
     match files.open(path.as_str()) {

@@ -1,3 +1,4 @@
+pub mod Ending
 pub mod FaultLine
 pub mod FilePath
 pub mod Pieces
@@ -7,5 +8,5 @@ pub mod Refused
 pub mod RunState
 pub mod Sections
 pub mod World
-pub mod WriteWhole
+pub mod WriteAll
 pub mod ZoneFeeds

@@ -1,5 +1,5 @@
 -- What a command finds and leaves.
-use Rattle.std.specs.Prelude.{ℕ, Bool, List}
+use Rattle.std.specs.Prelude.{◌≡◌, ℕ, Bool, List}
 use Rattle.devices.specs.files.Opening.{Opening}
 use Rattle.run_threads.specs.Starts.{StartsView}
 use Rattle.command_io.specs.FaultLine.{IsDoneOrRefused}
@@ -16,6 +16,18 @@ pub record World : Type 0 where
   -- the text for standard output, and the lines for standard error
   pub text : List ℕ
   pub lines : List ℕ
+
+-- nothing but the requests to open files, the text and the lines changed
+abbrev pub MakesNothing : (old new : World) → Type 0
+MakesNothing old new = (new.made ≡ old.made) × (new.starts ≡ old.starts)
+
+-- nothing but the text and the lines changed
+abbrev pub OnlyPrints : (old new : World) → Type 0
+OnlyPrints old new = (new.opened ≡ old.opened) × MakesNothing old new
+
+-- nothing but the requests to open files changed
+abbrev pub OnlyOpens : (old new : World) → Type 0
+OnlyOpens old new = MakesNothing old new × (new.text ≡ old.text) × (new.lines ≡ old.lines)
 
 -- how a command ends that turned the world `old` into `new`, by what it then has done, or why it failed
 abbrev pub CommandEnds : (Done : (old new : World) → Type 0) → (Why : (old new : World) → Refused → Type 0) → (old new : World) → (status : ℕ) → Type 0

@@ -2,6 +2,7 @@
 #![tactic(auto)]
 
 pub mod arguments;
+pub mod ending;
 pub mod input;
 pub mod laws;
 pub mod pieces;
@@ -10,5 +11,5 @@ pub mod plan_text;
 pub mod printing;
 pub mod refused;
 pub mod world;
-pub mod write_whole;
+pub mod write_all;
 pub mod zone_feeds;

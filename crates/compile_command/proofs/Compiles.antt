@@ -1,5 +1,5 @@
 -- Why a compile fails: not all files could be opened; or the run on them failed; or memory was refused for the line of the rows.
-use Rattle.std.proofs.Common.{◌≡◌, ◌+◌, ℕ, List, Option, inl, inr, length, subst}
+use Rattle.std.proofs.Common.{◌≡◌, ◌↔◌, ◌+◌, ℕ, List, Option, inl, inr, length, subst}
 use Rattle.devices.specs.feeds.FeedState.{FeedState, all_remaining}
 use Rattle.devices.specs.sinks.SinkState.{SinkState}
 use Rattle.lane.specs.Whole.{GatheredView}
@@ -25,8 +25,8 @@ module _ (inputs : Inputs) (old new : RunState (TextName → SinkState)) {F : Ty
 
   pub refused_run : (feeds : List F) (refusal : Refusal) (why : Refused)
       → AreOpened old.opened new.opened inputs.zones (all_remaining state feeds) → why ≡ Run refusal
-      → ((kind : SettingsFault) → refusal ≡ Settings kind
-      → IsSettingsFault inputs.plan (length (all_remaining state feeds)) inputs.formulas inputs.settings kind)
+      → ((kind : SettingsFault)
+      → (refusal ≡ Settings kind) ↔ IsSettingsFault inputs.plan (length (all_remaining state feeds)) inputs.formulas inputs.settings kind)
       → IsRefused inputs.plan (all_remaining state feeds) (HasFailed state feeds) old.sinks new.sinks refusal
       → AreStartsOf (inputs.settings.valuers + length (all_remaining state feeds)) old.starts new.starts refusal
       → IsNoCompile inputs old new state why
@@ -36,7 +36,8 @@ module _ (inputs : Inputs) (old new : RunState (TextName → SinkState)) {F : Ty
     record {
       feeds = feeds;
       opened = opened;
-      invalid = λ kind is. subst (λ n. IsSettingsFault inputs.plan n inputs.formulas inputs.settings kind) opened.each (invalid kind is);
+      invalid = λ kind. subst (λ n. (refusal ≡ Settings kind) ↔ IsSettingsFault inputs.plan n inputs.formulas inputs.settings kind) opened.each
+          (invalid kind);
       refused = refused;
       starts = subst (λ n. AreStartsOf (inputs.settings.valuers + n) old.starts new.starts refusal) opened.each starts;
     },

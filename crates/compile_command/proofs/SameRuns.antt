@@ -19,7 +19,7 @@ use Rattle.plan_parts.specs.declared.block.Block.{Block}
 use Rattle.plan_parts.specs.declared.formulas.formula.Formula.{Formula}
 use Rattle.plan_parts.specs.declared.settings.Settings.{Settings as Chosen}
 use Rattle.run_threads.specs.Starts.{StartsView}
-use Rattle.precedence.specs.Identifier.{is_same_place, IsFirstAgain}
+use Rattle.precedence.specs.Identifier.{is_same_cell, IsFirstAgain}
 use Rattle.refusals.specs.declared.refusal.Refusal.{Refusal}
 use Rattle.refusals.specs.declared.refusal.Refusal.TheVariants.{Settings, NoThread, FeedFailed, TooLong, Row, Same, SinkFailed, OutOfMemory}
 use Rattle.refusals.specs.declared.refusal.RowAt.{RowAt}
@@ -98,7 +98,7 @@ all_true true true false a b c = absurd (false≢true c)
 all_true true false r a b c = absurd (false≢true b)
 all_true false q r a b c = absurd (false≢true a)
 
-same_again : (a b c : Block) → is_same_place a c ≡ true → is_same_place b c ≡ true → is_same_place a b ≡ true
+same_again : (a b c : Block) → is_same_cell a c ≡ true → is_same_cell b c ≡ true → is_same_cell a b ≡ true
 same_again a b c h k =
     let z = and_parts _ _ h in
     let xy = and_parts _ _ z.0 in
@@ -125,8 +125,8 @@ module _ (listed : List Block) (i j k l : ℕ) (f : IsFirstAgain listed i j) (g 
       (λ ge. ⊎_elim (λ lt. absurd (false≢true (sym (f.none_before k l default g.before lt) ∙ g.same default)))
       (λ le. omega (arith, ge, le)) (cases_lt l j)) (cases_lt j l)
 
-  first_same : is_same_place (at i) (at l) ≡ true
-  first_same = subst (λ n. is_same_place (at i) (at n) ≡ true) one_later (f.same default)
+  first_same : is_same_cell (at i) (at l) ≡ true
+  first_same = subst (λ n. is_same_cell (at i) (at n) ≡ true) one_later (f.same default)
 
   first_before : i < l
   first_before = subst (λ n. i < n) one_later f.before

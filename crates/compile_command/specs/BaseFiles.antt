@@ -9,7 +9,7 @@ use Rattle.minelib_lines.specs.declared.text_name.TextName.{TextName}
 use Rattle.compile_command.specs.Compile.{IsNoCompile, ReportsRows}
 use Rattle.pit_compile.specs.Sinks.{sink_states}
 use Rattle.refusals.specs.declared.refusal.Refusal.TheVariants.{OutOfMemory}
-use Rattle.pit_compile.specs.declared.running.TheConstants.{MOST_STARTS}
+use Rattle.pit_compile.specs.declared.running.TheConstants.{MAX_STARTS}
 use Rattle.pit_compile.specs.declared.sinks.Sinks.{Sinks}
 use Rattle.command_io.specs.FilePath.{path_to}
 use Rattle.command_io.specs.RunState.{Inputs, run_state}
@@ -67,7 +67,7 @@ module _ (base : List ℕ) (inputs : Inputs) where
 
 -- a system before a command: no file was requested, no slot was made, and no start was spent
 abbrev pub system_world : (text lines : List ℕ) → World
-system_world text lines = record { reports = false; opened = []; made = []; starts = none_spent MOST_STARTS; text = text; lines = lines }
+system_world text lines = record { reports = false; opened = []; made = []; starts = none_spent MAX_STARTS; text = text; lines = lines }
 
 -- the line of the rows was appended, for the files of a system
 pub record ReportsRowsOfFiles (base : List ℕ) (inputs : Inputs) (text_old text_new : List ℕ) : Type 0 where

@@ -1,5 +1,5 @@
 -- A compile: it opens zone files, runs on them into its sinks, and appends the line of the rows.
-use Rattle.std.specs.Prelude.{◌≡◌, ℕ, ◌+◌, ◌⊎◌, List, [], ◌∷◌, ◌++◌, codes, length, Option}
+use Rattle.std.specs.Prelude.{◌≡◌, ◌↔◌, ℕ, ◌+◌, ◌⊎◌, List, [], ◌∷◌, ◌++◌, codes, length, Option}
 use Rattle.std.specs.Fmt.{decimal}
 use Rattle.std.specs.List.{sum_by}
 use Rattle.devices.specs.feeds.FeedState.{FeedState, all_remaining}
@@ -47,8 +47,8 @@ module _ (inputs : Inputs) (old new : RunState (TextName → SinkState)) where
     pub record IsRunRefused (why : Refusal) : Type 0 where
       pub feeds : List F
       pub opened : AreOpened old.opened new.opened inputs.zones (all_remaining state feeds)
-      pub invalid : (kind : SettingsFault) → why ≡ refusal.Settings kind
-          → IsSettingsFault inputs.plan (length inputs.zones) inputs.formulas inputs.settings kind
+      pub invalid : (kind : SettingsFault)
+          → (why ≡ refusal.Settings kind) ↔ IsSettingsFault inputs.plan (length inputs.zones) inputs.formulas inputs.settings kind
       pub refused : IsRefused inputs.plan (all_remaining state feeds) (HasFailed state feeds) old.sinks new.sinks why
       pub starts : AreStartsOf (inputs.settings.valuers + length inputs.zones) old.starts new.starts why
 

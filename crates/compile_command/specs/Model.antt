@@ -27,8 +27,8 @@ HasTooManyFiles input plan refused =
     ((refused ≡ Run (Settings Files)) × (length plan.cones < length (zone_pieces input))) ⊎ (refused ≡ Run OutOfMemory)
 
 -- the first part of an input states no plan; or it states a plan with fewer zones than there are other parts
-abbrev pub GivesNoModel : List ℕ → Refused → Type 0
-GivesNoModel input refused =
+abbrev pub HasNoModel : List ℕ → Refused → Type 0
+HasNoModel input refused =
     IsNoPlan (plan_piece input) refused ⊎ ((plan : Plan) × (planned (plan_piece input) ≡ Ok plan) × HasTooManyFiles input plan refused)
 
 -- of an input, by the state of its feed before and now
@@ -43,4 +43,4 @@ module _ (old new : FeedState) where
   abbrev pub IsNoModel : Refused → Type 0
   IsNoModel refused =
       IsUnread Input MAX_FILE_BYTES old new refused
-      ⊎ ((input : List ℕ) × IsReadWhole old new input × (length input ≤ MAX_FILE_BYTES) × GivesNoModel input refused)
+      ⊎ ((input : List ℕ) × IsReadWhole old new input × (length input ≤ MAX_FILE_BYTES) × HasNoModel input refused)

@@ -1,5 +1,5 @@
 -- What the pipe form prints for a model: the files of its instance, each after its section line.
-use Rattle.std.specs.Prelude.{◌≡◌, ℕ, ◌+◌, ◌⊎◌, List, ◌++◌, length}
+use Rattle.std.specs.Prelude.{◌≡◌, ◌↔◌, ℕ, ◌+◌, ◌⊎◌, List, ◌++◌, length}
 use Rattle.devices.specs.feeds.FeedState.{FeedState}
 use Rattle.command_io.specs.Pieces.{PiecesView}
 use Rattle.command_io.specs.Sections.{printed}
@@ -11,6 +11,8 @@ use Rattle.pit_compile.specs.Settings.{IsSettingsFault}
 use Rattle.pit_compile.specs.Verdict.{IsAccepted, IsRefusedBy}
 use Rattle.refusals.specs.declared.refusal.Refusal.{Refusal}
 use Rattle.refusals.specs.declared.refusal.Refusal.TheVariants.{OutOfMemory}
+use Rattle.refusals.specs.declared.refusal.Refusal.TheVariants as refusal
+use Rattle.refusals.specs.declared.settings_fault.SettingsFault.{SettingsFault}
 use Rattle.plan_parts.specs.declared.settings.Settings as settings
 use Rattle.plan_parts.specs.Plan.{PlanParts}
 use Rattle.plan_parts.specs.PlanFormulas.{formulas_of_plan}
@@ -36,10 +38,13 @@ abbrev pub PipeRefused : PlanParts → List Formula → List (List ℕ) → Refu
 PipeRefused plan formulas zones refusal =
     RunRefused (IsSettingsFault plan (length zones) formulas pipe_settings) (IsRefusedBy plan zones) ⊥ refusal
 
--- the same as an error of the program, with the starts of threads before and after
+-- the same as an error of the program, with the starts of threads before and after; the settings are the reason exactly if they do not
+-- fit
 abbrev pub IsNoPipe : PlanParts → List Formula → List (List ℕ) → (old new : StartsView) → Refused → Type 0
 IsNoPipe plan formulas zones old new refused =
-    (why : Refusal) × (refused ≡ Run why) × PipeRefused plan formulas zones why × AreStartsOf (4 + length zones) old new why
+    (why : Refusal) × (refused ≡ Run why)
+    × ((kind : SettingsFault) → (why ≡ refusal.Settings kind) ↔ IsSettingsFault plan (length zones) formulas pipe_settings kind)
+    × PipeRefused plan formulas zones why × AreStartsOf (4 + length zones) old new why
 
 -- of an input, by the state of its feed before and now
 module _ (input_old input_new : FeedState) where

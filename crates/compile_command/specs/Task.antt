@@ -19,8 +19,8 @@ plan_in (Pipe model) = model.plan
 plan_in (Files plan settings base zones) = plan
 
 -- no file was opened, and no slot was made
-abbrev pub AsksForNone : (old new : World) → Type 0
-AsksForNone old new = (new.opened ≡ old.opened) × (new.made ≡ old.made)
+abbrev pub TouchesNoFile : (old new : World) → Type 0
+TouchesNoFile old new = (new.opened ≡ old.opened) × (new.made ≡ old.made)
 
 -- for a task with destinations that have these formulas, by the sinks that it made
 module _ (formulas : List Formula) where
@@ -28,7 +28,7 @@ module _ (formulas : List Formula) where
   -- for each valuer and zone file; or the line with the rows of the files
   abbrev pub IsTaskDone : Task → Option (Sinks FileSinkView) → (old new : World) → Type 0
   IsTaskDone (Pipe model) sinks old new =
-      IsPrinted model.plan model.pieces.zones old.text new.text × AsksForNone old new × AreSpent (4 + length model.pieces.zones) new.starts
+      IsPrinted model.plan model.pieces.zones old.text new.text × TouchesNoFile old new × AreSpent (4 + length model.pieces.zones) new.starts
   IsTaskDone (Files plan settings base zones) sinks old new =
       ReportsRowsAt (string_bytes base)
       (record { plan = plan; formulas = formulas; zones = map string_bytes zones.items; settings = settings }) sinks old new
@@ -38,7 +38,7 @@ module _ (formulas : List Formula) where
     -- why the task failed with these destinations: as the pipe form fails, or as a compile to the files of BASE fails
     abbrev pub IsNoTask : Task → Option (Sinks FileSinkView) → (old new : World) → Refused → Type 0
     IsNoTask (Pipe model) sinks old new refused =
-        IsNoPipe model.plan formulas model.pieces.zones old.starts new.starts refused × AsksForNone old new
+        IsNoPipe model.plan formulas model.pieces.zones old.starts new.starts refused × TouchesNoFile old new
     IsNoTask (Files plan settings base zones) sinks old new refused =
         IsNoCompileAt (string_bytes base)
         (record { plan = plan; formulas = formulas; zones = map string_bytes zones.items; settings = settings }) state sinks old new refused

@@ -10,7 +10,7 @@ ghost use Rattle.command_io.specs.World.{CommandEnds, World as AWorld};
 ghost use Rattle.compile_command.specs.BaseFiles.{AreThere, IsNoCompileAt, IsNoCompileOfFiles, ReportsRowsAt, ReportsRowsOfFiles};
 ghost use Rattle.compile_command.specs.Compile.{IsNoCompile, ReportsRows, rows_line};
 
-use crate::compile_at::{Ended, compile_at};
+use crate::compile_at::{TaskEnded, compile_at};
 use command_io::refused::Refused;
 use command_io::world::World;
 use command_io::zone_feeds::open_all;
@@ -22,7 +22,7 @@ use devices::files::system_slots::SystemSlots;
 use devices::sinks::sink::Sink;
 use pit_compile::settings::Settings;
 use pit_compile::sinks::Sinks;
-use pit_compile::{MOST_STARTS, Starts, run_with_starts};
+use pit_compile::{MAX_STARTS, Starts, run_with_starts};
 use pit_model::destination::Destination;
 use pit_model::plan::Plan;
 use std::alloc::{AllocError, Global};
@@ -90,7 +90,7 @@ pub fn compile_into<R: Threads + Wait + Sync, O: Opener, S: Sink>(
 /// If all is written, it appends the line `rows N` to `out`; else the line of the error to `err`. At most one of the two grows. If
 /// memory is refused, the status is 4, and both are unchanged.
 ///
-/// It is `compile_at` over the system's files, with `MOST_STARTS` starts. No contract can state the content of these files: its
+/// It is `compile_at` over the system's files, with `MAX_STARTS` starts. No contract can state the content of these files: its
 /// clauses are about some files at these paths. If the status is 0, the system has made or opened a file at each path of BASE.
 pub fn compile_files<R: Files + Threads + Wait + Sync>(
     rt: &R,
@@ -119,7 +119,7 @@ where
         alloc,
         SystemFiles::new(rt),
         SystemSlots::new(rt),
-        Starts::new(rt, MOST_STARTS),
+        Starts::new(rt, MAX_STARTS),
         plan,
         destinations,
         settings,
@@ -144,7 +144,7 @@ fn compile_in<R: Threads + Wait + Sync, O: Opener + Drop, F: FileSlots + Drop>(
     zones: &[String],
     out: &mut Vec<u8>,
     err: &mut Vec<u8>,
-) -> Ended<F::Slot>
+) -> TaskEnded<F::Slot>
     requires unspent { starts ≡ none_spent starts.allowed }
     ensures ends { let inputs : AnInputs = record {
       plan = plan.now;

@@ -13,6 +13,7 @@ ghost use Rattle.run_threads.specs.Starts.{none_spent, AreSettled};
 use crate::compile::compile_into;
 use crate::instance_files::sinks_of;
 use crate::placed_sink::PlacedSink;
+use command_io::ending::Ended;
 use command_io::refused::Refused;
 use command_io::refused::fault_line::report;
 use command_io::world::World;
@@ -27,14 +28,8 @@ use std::alloc::Global;
 use std::sync::Wait;
 use std::thread::Threads;
 
-/// The end of a task.
-#[derive(Drop)]
-pub struct Ended<P: FileSlot> {
-    /// The exit status of the program.
-    pub status: u8,
-    /// The sinks of the files of BASE, if slots for these were made.
-    pub sinks: Option<Sinks<PlacedSink<P>>>,
-}
+/// The end of a task, with the sinks of the files of BASE.
+pub type TaskEnded<P> = Ended<Sinks<PlacedSink<P>>>;
 
 /// Compiles the zone files at these paths, like `compile_into`, into sinks for the files of BASE: `BASE.blocks` and so on, which
 /// replace existing files. Makes exactly one slot for each. Returns the end of the task.
@@ -50,7 +45,7 @@ pub fn compile_at<R: Threads + Wait + Sync, O: Opener + Drop, F: FileSlots + Dro
     base: &str,
     zones: &[String],
     world: &mut World<'_, O, F, R>,
-) -> Ended<F::Slot>
+) -> TaskEnded<F::Slot>
     requires unspent { world.old.starts ≡ none_spent world.old.starts.allowed }
     ensures ends { let inputs : AnInputs = record {
       plan = plan.now;

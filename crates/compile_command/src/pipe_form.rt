@@ -16,7 +16,7 @@ use devices::feeds::feed::Feed;
 use devices::feeds::slice_feed::SliceFeed;
 use lane::Gathered;
 use pit_compile::settings::{Settings, require_settings};
-use pit_compile::{MOST_STARTS, Starts, compile_with_starts};
+use pit_compile::{MAX_STARTS, Starts, compile_with_starts};
 use pit_model::destination::Destination;
 use pit_model::plan::Plan;
 use plan_parts::ranges::{USUAL_CAPACITY, USUAL_VALUERS};
@@ -57,7 +57,7 @@ pub fn pipe<R: Threads + Wait + Sync>(
     ensures refused { IfErr result (PipeRefused plan.now (formulas_of destinations.now) zones.now) }
     ensures kept { OnErr result (out.new.items ≡ out.old.items) }
 {
-    let mut starts = Starts::new(rt, MOST_STARTS);
+    let mut starts = Starts::new(rt, MAX_STARTS);
     pipe_with_starts(alloc, zones, plan, destinations, &mut starts, out)
 }
 

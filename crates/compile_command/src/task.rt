@@ -7,9 +7,10 @@ ghost use Rattle.run_threads.specs.Starts.{none_spent, AreSettled, AreSpent};
 ghost use Rattle.compile_command.specs.Printed.{IsNoPipe, IsPrinted};
 ghost use Rattle.compile_command.specs.Task.{IsNoTask, IsTaskDone, plan_in};
 
-use crate::compile_at::{Ended, compile_at};
+use crate::compile_at::{TaskEnded, compile_at};
 use crate::model::Model;
 use crate::pipe_form::pipe_with_starts;
+use command_io::ending::Ended;
 use command_io::refused::Refused;
 use command_io::refused::fault_line::report;
 use command_io::world::World;
@@ -55,7 +56,7 @@ impl Task {
         alloc: Global,
         destinations: &[Destination],
         world: &mut World<'_, O, F, R>,
-    ) -> Ended<F::Slot>
+    ) -> TaskEnded<F::Slot>
         requires unspent { world.old.starts ≡ none_spent world.old.starts.allowed }
         ensures ends { let formulas = formulas_of destinations.now in
             CommandEnds (IsTaskDone formulas self.now result.sinks)

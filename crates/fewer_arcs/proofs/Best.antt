@@ -4,11 +4,11 @@ use Rattle.std.proofs.lemmas.Bool.{ltb-false, ltb-true, lt-ltb}
 use Rattle.std.proofs.lemmas.Int.{ints}
 use Rattle.std.proofs.Math.IntN.{*ℤ-zero}
 use Rattle.precedence.specs.Closed.{ComeLater, HasArc}
-use Rattle.fewer_arcs.specs.Fewer.{fewer}
+use Rattle.fewer_arcs.specs.Reduced.{reduced}
 use Rattle.fewer_arcs.specs.Mined.{IsPit, IsSchedule}
 use Rattle.fewer_arcs.specs.Optima.{sum, count, IsBest, pit_value, schedule_value, shares_value, Shares, mined_in, mined_by, Fall, IsSharedOut, ShareModel, IsUltimatePit, IsBestSchedule, AreBestShares}
 use Rattle.fewer_arcs.proofs.Sums.{none_of, one_more, sum_le, sum_of_two, sum_same, sum_times, times_more, times_mono, times_times}
-use Rattle.fewer_arcs.proofs.Told.{mined_back, mined_there, pit_back, pit_there, schedule_back, schedule_there}
+use Rattle.fewer_arcs.proofs.SameOptima.{mined_back, mined_there, pit_back, pit_there, schedule_back, schedule_there}
 
 -- equal choices have equal best choices
 best_of : {X : Type 0} (P Q : X → Type 0) (worth : X → ℤ) → ((x : X) → P x → Q x) → ((x : X) → Q x → P x)
@@ -16,16 +16,16 @@ best_of : {X : Type 0} (P Q : X → Type 0) (worth : X → ℤ) → ((x : X) →
 best_of P Q worth there back x best = (there x best.0, λ other own. best.1 other (back other own))
 
 module _ (lists : List (List ℕ)) (later : ComeLater lists) where
-  pub best_pits : (n : ℕ) (value : ℕ → ℤ) (pit : ℕ → Bool) → IsUltimatePit (fewer lists) n value pit ↔ IsUltimatePit lists n value pit
+  pub best_pits : (n : ℕ) (value : ℕ → ℤ) (pit : ℕ → Bool) → IsUltimatePit (reduced lists) n value pit ↔ IsUltimatePit lists n value pit
   best_pits n value pit = (
-    best_of (IsPit (fewer lists)) (IsPit lists) (pit_value n value) (pit_there lists later) (pit_back lists later) pit,
-    best_of (IsPit lists) (IsPit (fewer lists)) (pit_value n value) (pit_back lists later) (pit_there lists later) pit,
+    best_of (IsPit (reduced lists)) (IsPit lists) (pit_value n value) (pit_there lists later) (pit_back lists later) pit,
+    best_of (IsPit lists) (IsPit (reduced lists)) (pit_value n value) (pit_back lists later) (pit_there lists later) pit,
   )
 
   pub best_schedules : (is_within : (ℕ → ℕ) → Bool) (n : ℕ) (weight : ℕ → ℕ) (value : ℕ → ℤ) (period_of : ℕ → ℕ)
-      → IsBestSchedule (fewer lists) is_within n weight value period_of ↔ IsBestSchedule lists is_within n weight value period_of
+      → IsBestSchedule (reduced lists) is_within n weight value period_of ↔ IsBestSchedule lists is_within n weight value period_of
   best_schedules is_within n weight value period_of =
-      let few = λ (other : ℕ → ℕ). IsSchedule (fewer lists) other × (is_within other ≡ true) in
+      let few = λ (other : ℕ → ℕ). IsSchedule (reduced lists) other × (is_within other ≡ true) in
       let all = λ (other : ℕ → ℕ). IsSchedule lists other × (is_within other ≡ true) in
       let there : (other : ℕ → ℕ) → few other → all other = λ other own. (schedule_there lists later other own.0, own.1) in
       let back : (other : ℕ → ℕ) → all other → few other = λ other own. (schedule_back lists later other own.0, own.1) in
@@ -33,9 +33,9 @@ module _ (lists : List (List ℕ)) (later : ComeLater lists) where
       (best_of few all worth there back period_of, best_of all few worth back there period_of)
 
   pub best_shares : (are_within : Shares → Bool) (m : ShareModel) (shares : Shares)
-      → AreBestShares (fewer lists) are_within m shares ↔ AreBestShares lists are_within m shares
+      → AreBestShares (reduced lists) are_within m shares ↔ AreBestShares lists are_within m shares
   best_shares are_within m shares =
-      let few = λ (other : Shares). IsSharedOut (fewer lists) m.unit m.destinations other × (are_within other ≡ true) in
+      let few = λ (other : Shares). IsSharedOut (reduced lists) m.unit m.destinations other × (are_within other ≡ true) in
       let all = λ (other : Shares). IsSharedOut lists m.unit m.destinations other × (are_within other ≡ true) in
       let there : (other : Shares) → few other → all other = λ other own.
       (record { order = mined_there lists later (mined_by m.destinations other) own.0.order; most = own.0.most }, own.1) in

@@ -1,8 +1,8 @@
 pub mod Best
 pub mod Members
+pub mod Needed
 pub mod One
+pub mod ReducedLists
 pub mod Same
-pub mod SomeLeft
-pub mod Spared
+pub mod SameOptima
 pub mod Sums
-pub mod Told

@@ -1,5 +1,5 @@
-pub mod Fewer
-pub mod Left
+pub mod Implied
 pub mod Mined
 pub mod Optima
-pub mod SayTheSame
+pub mod Reduced
+pub mod ReducedList

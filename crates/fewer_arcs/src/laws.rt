@@ -9,49 +9,49 @@ ghost use Rattle.plan_parts.specs.Plan.{PlanParts};
 ghost use Rattle.plan_parts.specs.PlanInvariant.{IsCone};
 ghost use Rattle.plan_parts.specs.declared.block.Block.{Block};
 ghost use Rattle.plan_parts.specs.declared.cone.Cone.{Cone};
-ghost use Rattle.fewer_arcs.specs.Fewer.{fewer, left_of};
-ghost use Rattle.fewer_arcs.specs.Left.{IsLeft, Rise, StandForAll};
+ghost use Rattle.fewer_arcs.specs.Reduced.{reduced, reduced_list};
+ghost use Rattle.fewer_arcs.specs.ReducedList.{IsReduced, Rise, IsCoveringSet};
 ghost use Rattle.fewer_arcs.specs.Mined.{IsMinedInOrder, IsPit, IsSchedule};
 ghost use Rattle.fewer_arcs.specs.Optima.{AreBestShares, Fall, IsBestSchedule, IsSharedOut, IsUltimatePit, ShareModel, Shares, pit_value, schedule_value, shares_value};
-ghost use Rattle.fewer_arcs.specs.SayTheSame.{AreAmong, HaveWays, SaysTheSame};
+ghost use Rattle.fewer_arcs.specs.Implied.{AreAmong, HavePaths, AreImplied};
 
 use precedence::laws::{preds_come_later, preds_rise};
 
 /// Guarantees that reduced lists are equivalent to the lists: every transitive relation that holds along each retained arc holds along
 /// each arc, because the retained arcs have a path for each arc.
-pub fn fewer_say_the_same()
-    ensures same { (lists : List (List ℕ)) → ComeLater lists → SaysTheSame lists (fewer lists) }
-    ensures ways { (lists : List (List ℕ)) → ComeLater lists → HaveWays lists (fewer lists) }
+pub fn reduced_lists_imply_all_arcs()
+    ensures same { (lists : List (List ℕ)) → ComeLater lists → AreImplied lists (reduced lists) }
+    ensures paths { (lists : List (List ℕ)) → ComeLater lists → HavePaths lists (reduced lists) }
 {}
 
 /// Guarantees that reduced lists have the same pits.
 pub fn pits_are_the_same()
     ensures { (lists : List (List ℕ)) (pit : ℕ → Bool) → ComeLater lists
-        → (IsPit (fewer lists) pit ↔ IsPit lists pit) }
+        → (IsPit (reduced lists) pit ↔ IsPit lists pit) }
 {}
 
 /// Guarantees that shares of blocks that are mined by the end of each period, as in CPIT and PCPSP, respect the reduced lists exactly if
 /// they respect the lists.
 pub fn mined_in_the_same_order()
     ensures { (lists : List (List ℕ)) (mined : ℕ → ℕ → ℕ) → ComeLater lists
-        → (IsMinedInOrder (fewer lists) mined ↔ IsMinedInOrder lists mined) }
+        → (IsMinedInOrder (reduced lists) mined ↔ IsMinedInOrder lists mined) }
 {}
 
 /// Guarantees that reduced lists have the same schedules of undivided blocks.
 pub fn schedules_are_the_same()
     ensures { (lists : List (List ℕ)) (period_of : ℕ → ℕ) → ComeLater lists
-        → (IsSchedule (fewer lists) period_of ↔ IsSchedule lists period_of) }
+        → (IsSchedule (reduced lists) period_of ↔ IsSchedule lists period_of) }
 {}
 
 /// Guarantees that reduced lists have the same optima of UPIT, CPIT and PCPSP, for any values, weights of periods and limits.
 pub fn optima_are_the_same()
     ensures upit { (lists : List (List ℕ)) (n : ℕ) (value : ℕ → ℤ) (pit : ℕ → Bool) → ComeLater lists
-        → (IsUltimatePit (fewer lists) n value pit ↔ IsUltimatePit lists n value pit) }
+        → (IsUltimatePit (reduced lists) n value pit ↔ IsUltimatePit lists n value pit) }
     ensures cpit { (lists : List (List ℕ)) (is_within : (ℕ → ℕ) → Bool) (n : ℕ) (weight : ℕ → ℕ) (value : ℕ → ℤ) (period_of : ℕ → ℕ)
         → ComeLater lists
-        → (IsBestSchedule (fewer lists) is_within n weight value period_of ↔ IsBestSchedule lists is_within n weight value period_of) }
+        → (IsBestSchedule (reduced lists) is_within n weight value period_of ↔ IsBestSchedule lists is_within n weight value period_of) }
     ensures pcpsp { (lists : List (List ℕ)) (are_within : Shares → Bool) (model : ShareModel) (shares : Shares) → ComeLater lists
-        → (AreBestShares (fewer lists) are_within model shares ↔ AreBestShares lists are_within model shares) }
+        → (AreBestShares (reduced lists) are_within model shares ↔ AreBestShares lists are_within model shares) }
 {}
 
 /// Guarantees that no schedule has a larger value than the ultimate pit mined in the first period. The weights of periods must never
@@ -70,33 +70,33 @@ pub fn no_schedule_is_worth_more()
 
 /// Guarantees that the reduced list of a strictly ascending list is a part of it in its order. Each dropped block is a predecessor of
 /// another block of the list, and no retained block is.
-pub fn some_are_left()
+pub fn lists_are_reduced()
     ensures { (lists : List (List ℕ)) (b : ℕ) → Rise lists → b < length lists
-        → IsLeft lists (slice_index_or lists b []) (slice_index_or (fewer lists) b []) }
+        → IsReduced lists (slice_index_or lists b []) (slice_index_or (reduced lists) b []) }
 {}
 
 /// Guarantees that the reduced list is the only such part of a list.
-pub fn left_in_one_way()
+pub fn reduced_lists_are_unique()
     ensures { (lists : List (List ℕ)) (list one other : List ℕ)
-        → IsLeft lists list one → IsLeft lists list other → one ≡ other }
+        → IsReduced lists list one → IsReduced lists list other → one ≡ other }
 {}
 
 /// Guarantees that a covering set of a list contains the reduced list. In a covering set, each block of the list is a member or a
 /// predecessor of a member. Dropping a block only if it is a predecessor of a block retained before it leaves such a set.
-pub fn none_leave_less()
-    ensures { (lists : List (List ℕ)) (list some : List ℕ) → StandForAll lists list some
-        → (c : ℕ) → Contains (left_of lists list) c → Contains some c }
+pub fn covering_sets_contain_reduced_lists()
+    ensures { (lists : List (List ℕ)) (list some : List ℕ) → IsCoveringSet lists list some
+        → (c : ℕ) → Contains (reduced_list lists list) c → Contains some c }
 {}
 
-/// Guarantees that no retained arc can be spared, if the lists are closed: every other choice of arcs with a path for each arc of the
+/// Guarantees that no retained arc can be dropped, if the lists are closed: every other choice of arcs with a path for each arc of the
 /// lists contains it.
-pub fn none_can_be_spared()
+pub fn every_retained_arc_is_needed()
     ensures { (lists other : List (List ℕ)) → AreClosed lists
-        → AreAmong other lists → HaveWays lists other → AreAmong (fewer lists) other }
+        → AreAmong other lists → HavePaths lists other → AreAmong (reduced lists) other }
 {}
 
 /// Guarantees that the predecessor lists of a model are closed, if all zones have the same cone. So none of their retained arcs can be
-/// spared.
+/// dropped.
 pub fn one_cone_is_closed()
     ensures { (plan : PlanParts) (blocks : List Block) (cone : Cone) → IsCone cone → All (λ own. own ≡ cone) plan.cones
         → HasZones plan blocks → AreClosed (preds plan blocks) }

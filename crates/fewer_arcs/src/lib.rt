@@ -1,7 +1,7 @@
 //! Reduced lists of predecessors: a predecessor of a block is dropped if it is also a predecessor of another of the block's predecessors.
 #![tactic(auto)]
 
-mod fewer_preds;
 pub mod laws;
+mod reduced_preds;
 
-pub use fewer_preds::FewerPreds;
+pub use reduced_preds::ReducedPreds;

@@ -114,6 +114,6 @@ look_whole pass v takers c h items views l at = (looked pass v takers c h items 
 pub one_less : {A : Type 0} (l r : List A) (x : A) (n m : ℕ) → n ≡ length l → l ≡ x ∷ r → n ≡ m + 1 → m ≡ length r
 one_less l r x n m a e b = let short = ap (λ (k : List _). length k) e in omega arith
 
-pub nothing_left : {A : Type 0} (l : List A) → length l ≡ 0 → l ≡ []
-nothing_left [] h = refl
-nothing_left (x ∷ xs) h = absurd (omega arith)
+pub nothing_remains : {A : Type 0} (l : List A) → length l ≡ 0 → l ≡ []
+nothing_remains [] h = refl
+nothing_remains (x ∷ xs) h = absurd (omega arith)

@@ -20,13 +20,13 @@ begins n = record {
   lists = λ f. tt;
   files = λ f _. refl;
   takers = λ w _. refl;
-  left = λ f. 0;
+  taken = λ f. 0;
   within = λ f. omega arith;
   once = λ f p. over_zero n.takers (λ w. 0) (λ k. refl) ∙ sym (ap (λ (b : Bool). cond {A = ℕ} b 1 0) (le-ltb p 0 (omega arith)));
   placed = λ w. tt;
   rises = λ w f k within. absurd (omega arith);
   rest = λ f. refl;
-  behind = tt;
+  stops_last = tt;
   stopped = λ w _. tt;
   ended = λ l. absurd (omega arith);
   room = omega arith;
@@ -64,21 +64,21 @@ module _ (n : Size) (s : State) (h : IsLawful n s) where
         lists = with_at_all (λ j l. IsFrom j 0 l) s.sent f (s.sent f ++ m ∷ []) new (λ j _. h.lists j);
         files = with_at_all (λ j l. n.files ≤ j → l ≡ []) s.sent f (s.sent f ++ m ∷ []) (λ l. absurd (omega arith)) (λ j _. h.files j);
         takers = h.takers;
-        left = h.left;
-        within = with_at_all (λ j l. h.left j ≤ length l) s.sent f
+        taken = h.taken;
+        within = with_at_all (λ j l. h.taken j ≤ length l) s.sent f
             (s.sent f ++ m ∷ []) (omega (arith, h.within f, length-append (s.sent f) (m ∷ []))) (λ j _. h.within j);
         once = h.once;
-        placed = λ w. all_weaker (IsPlaced s.sent h.left) (IsPlaced (put f m s).sent h.left)
-            (placed_later s.sent (put f m s).sent h.left h.left
+        placed = λ w. all_weaker (IsPlaced s.sent h.taken) (IsPlaced (put f m s).sent h.taken)
+            (placed_later s.sent (put f m s).sent h.taken h.taken
             (λ g p x e. with_at_all (λ j l. slice_get (s.sent j) p ≡ Some x → slice_get l p ≡ Some x) s.sent f
             (s.sent f ++ m ∷ []) (get_more (s.sent f) (m ∷ []) p x) (λ j _ q. q) g e)
             (λ g. omega arith))
             (s.took w) (h.placed w);
         rises = h.rises;
-        rest = with_at_all (λ j l. of j (s.queue ++ m ∷ []) ≡ drop (h.left j) l) s.sent f (s.sent f ++ m ∷ [])
-            (of_yes f s.queue m is ∙ (ap (λ l. l ++ m ∷ []) (h.rest f) ∙ sym (drop-append-le (h.left f) (s.sent f) (m ∷ []) (h.within f))))
+        rest = with_at_all (λ j l. of j (s.queue ++ m ∷ []) ≡ drop (h.taken j) l) s.sent f (s.sent f ++ m ∷ [])
+            (of_yes f s.queue m is ∙ (ap (λ l. l ++ m ∷ []) (h.rest f) ∙ sym (drop-append-le (h.taken f) (s.sent f) (m ∷ []) (h.within f))))
             (λ j ne. of_no j s.queue m (of_one f j m is ne) ∙ h.rest j);
-        behind = stops_none s.queue m (none_queued z);
+        stops_last = stops_none s.queue m (none_queued z);
         stopped = λ w some. absurd (let c = none_taken z w in let bad : ⊥ = omega arith in bad);
         ended = λ some. absurd (omega arith);
         room = omega (arith, length-append s.queue (m ∷ []));
@@ -95,13 +95,13 @@ module _ (n : Size) (s : State) (h : IsLawful n s) where
     lists = h.lists;
     files = h.files;
     takers = h.takers;
-    left = h.left;
+    taken = h.taken;
     within = h.within;
     once = h.once;
     placed = h.placed;
     rises = h.rises;
     rest = λ j. of_no j s.queue Stop refl ∙ h.rest j;
-    behind = stops_more s.queue h.behind;
+    stops_last = stops_more s.queue h.stops_last;
     stopped = λ w some. all_more (λ m. is_stop m ≡ true) s.queue Stop (h.stopped w some) refl;
     ended = λ _. a.1;
     room = omega (arith, a.0, length-append s.queue (Stop ∷ []));
@@ -118,13 +118,13 @@ module _ (n : Size) (s : State) (h : IsLawful n s) where
     lists = h.lists;
     files = h.files;
     takers = h.takers;
-    left = h.left;
+    taken = h.taken;
     within = h.within;
     once = h.once;
     placed = h.placed;
     rises = h.rises;
     rest = λ j. of_no j s.queue Quit refl ∙ h.rest j;
-    behind = stops_none s.queue Quit (none_queued a.1);
+    stops_last = stops_none s.queue Quit (none_queued a.1);
     stopped = λ w some. absurd (let c = none_taken a.1 w in let bad : ⊥ = omega arith in bad);
     ended = λ some. absurd (omega (arith, a.1));
     room = omega (arith, a.0, length-append s.queue (Quit ∷ []));
@@ -136,7 +136,7 @@ module _ (n : Size) (s : State) (h : IsLawful n s) where
     marks = h.marks;
   }
 
-  -- the first message leaves: left' says how much of each file left then
+  -- the first message leaves: taken' is the number of messages of each file taken then
   module _ (w : ℕ) (m : Taken) (rest : List Taken)
       (front : s.queue ≡ m ∷ rest) (below : w < n.takers) (undone : is_done (s.took w) ≡ false) where
     counted : (p : Taken → Bool) → over n.takers (λ v. count_by p (with_at s.took w (s.took w ++ m ∷ []) v))
@@ -156,7 +156,7 @@ module _ (n : Size) (s : State) (h : IsLawful n s) where
 
     stopped_then : (v : ℕ) → 0 < count_by is_stop (with_at s.took w (s.took w ++ m ∷ []) v) → AreStops rest
     stopped_then =
-        let queued : StopsLast (m ∷ rest) = subst StopsLast front h.behind in
+        let queued : StopsLast (m ∷ rest) = subst StopsLast front h.stops_last in
         let P : ℕ → List Taken → Type 0 = λ v l. 0 < count_by is_stop l → AreStops rest in
         let all_stops : (v : ℕ) → 0 < count_by is_stop (s.took v) → AreStops rest = λ v some. (subst AreStops front (h.stopped v some)).1 in
         with_at_all P s.took w (s.took w ++ m ∷ [])
@@ -167,10 +167,10 @@ module _ (n : Size) (s : State) (h : IsLawful n s) where
         (cases_Bool (is_stop m)))
         (λ v _. all_stops v)
 
-    module _ (left' : ℕ → ℕ) (grows : (j : ℕ) → h.left j ≤ left' j) (within' : (j : ℕ) → left' j ≤ length (s.sent j))
-        (counts : (j p : ℕ) → cond {A = ℕ} (nat_lt p (h.left j)) 1 0 + cond (is_at j p m) 1 0 ≡ cond (nat_lt p (left' j)) 1 0)
-        (here : IsPlaced s.sent left' m) (next : (j : ℕ) → is_of j m ≡ true → position m ≡ h.left j)
-        (rest' : (j : ℕ) → of j rest ≡ drop (left' j) (s.sent j)) where
+    module _ (taken' : ℕ → ℕ) (grows : (j : ℕ) → h.taken j ≤ taken' j) (within' : (j : ℕ) → taken' j ≤ length (s.sent j))
+        (counts : (j p : ℕ) → cond {A = ℕ} (nat_lt p (h.taken j)) 1 0 + cond (is_at j p m) 1 0 ≡ cond (nat_lt p (taken' j)) 1 0)
+        (here : IsPlaced s.sent taken' m) (next : (j : ℕ) → is_of j m ≡ true → position m ≡ h.taken j)
+        (rest' : (j : ℕ) → of j rest ≡ drop (taken' j) (s.sent j)) where
       rises_then : Rises (s.took w ++ m ∷ [])
       rises_then j =
           ⊎_elim
@@ -180,7 +180,7 @@ module _ (n : Size) (s : State) (h : IsLawful n s) where
           subst IsStrictlyIncreasing (sym e)
           (rising_more (map position (of j (s.took w))) (position m) (h.rises w j)
           (subst (λ k. AllByRecursion (λ p. p < k) (map position (of j (s.took w)))) (sym (next j t))
-          (placed_below s.sent h.left j (s.took w) (h.placed w)))))
+          (placed_below s.sent h.taken j (s.took w) (h.placed w)))))
           (λ (t : is_of j m ≡ false). subst (λ (l : List Taken). IsStrictlyIncreasing (map position l))
           (sym (of_no j (s.took w) m t)) (h.rises w j))
           (cases_Bool (is_of j m))
@@ -190,18 +190,18 @@ module _ (n : Size) (s : State) (h : IsLawful n s) where
         lists = h.lists;
         files = h.files;
         takers = with_at_all (λ v l. n.takers ≤ v → l ≡ []) s.took w (s.took w ++ m ∷ []) (λ l. absurd (omega arith)) (λ v _. h.takers v);
-        left = left';
+        taken = taken';
         within = within';
         once = λ j p. counted (is_at j p) ∙ (ap (λ k. k + cond (is_at j p m) 1 0) (h.once j p) ∙ counts j p);
-        placed = with_at_all (λ v l. AllByRecursion (IsPlaced s.sent left') l) s.took w (s.took w ++ m ∷ [])
-            (all_more (IsPlaced s.sent left') (s.took w) m
-            (all_weaker (IsPlaced s.sent h.left) (IsPlaced s.sent left') (placed_later s.sent s.sent h.left left' (λ f p x e. e) grows)
+        placed = with_at_all (λ v l. AllByRecursion (IsPlaced s.sent taken') l) s.took w (s.took w ++ m ∷ [])
+            (all_more (IsPlaced s.sent taken') (s.took w) m
+            (all_weaker (IsPlaced s.sent h.taken) (IsPlaced s.sent taken') (placed_later s.sent s.sent h.taken taken' (λ f p x e. e) grows)
             (s.took w) (h.placed w)) here)
-            (λ v _. all_weaker (IsPlaced s.sent h.left) (IsPlaced s.sent left')
-            (placed_later s.sent s.sent h.left left' (λ f p x e. e) grows) (s.took v) (h.placed v));
+            (λ v _. all_weaker (IsPlaced s.sent h.taken) (IsPlaced s.sent taken')
+            (placed_later s.sent s.sent h.taken taken' (λ f p x e. e) grows) (s.took v) (h.placed v));
         rises = with_at_all (λ v l. Rises l) s.took w (s.took w ++ m ∷ []) rises_then (λ v _. h.rises v);
         rest = rest';
-        behind = (subst StopsLast front h.behind).1;
+        stops_last = (subst StopsLast front h.stops_last).1;
         stopped = stopped_then;
         ended = h.ended;
         room = omega (arith, h.room, ap (λ (l : List Taken). length l) front);
@@ -221,34 +221,34 @@ module _ (n : Size) (s : State) (h : IsLawful n s) (w : ℕ) (m : Taken) (ms : L
     (front : s.queue ≡ m ∷ ms) (below : w < n.takers) (undone : is_done (s.took w) ≡ false) where
   take_mark : is_mark m ≡ true → IsLawful n (take_front w m ms s)
   take_mark t =
-      takes n s h w m ms front below undone h.left (λ j. omega arith) h.within
-      (λ j p. ap (λ (b : Bool). cond {A = ℕ} (nat_lt p (h.left j)) 1 0 + cond (b && (position m == p)) 1 0) (mark_of_none j m t)
-      ∙ (let z : cond {A = ℕ} (nat_lt p (h.left j)) 1 0 + 0 ≡ cond (nat_lt p (h.left j)) 1 0 = omega arith in z))
-      (placed_all s.sent h.left m (λ j e. absurd (true≢false (sym e ∙ mark_of_none j m t))))
+      takes n s h w m ms front below undone h.taken (λ j. omega arith) h.within
+      (λ j p. ap (λ (b : Bool). cond {A = ℕ} (nat_lt p (h.taken j)) 1 0 + cond (b && (position m == p)) 1 0) (mark_of_none j m t)
+      ∙ (let z : cond {A = ℕ} (nat_lt p (h.taken j)) 1 0 + 0 ≡ cond (nat_lt p (h.taken j)) 1 0 = omega arith in z))
+      (placed_all s.sent h.taken m (λ j e. absurd (true≢false (sym e ∙ mark_of_none j m t))))
       (λ j e. absurd (true≢false (sym e ∙ mark_of_none j m t)))
       (λ j. sym (front_no j m ms (mark_of_none j m t)) ∙ (sym (ap (of j) front) ∙ h.rest j))
 
   take_of : (f : ℕ) → is_of f m ≡ true → IsLawful n (take_front w m ms s)
   take_of f is =
-      let left' : ℕ → ℕ = with_at h.left f (h.left f + 1) in
-      let here : left' f ≡ h.left f + 1 = with_at_here h.left f (h.left f + 1) in
-      let d = drop_front (s.sent f) (h.left f) m (of f ms) (sym (h.rest f) ∙ (ap (of f) front ∙ front_yes f m ms is)) in
-      let at' : position m ≡ h.left f = let r = (from_place f 0 (s.sent f) (h.left f) m (h.lists f) d.0).1 in omega arith in
-      takes n s h w m ms front below undone left'
-      (with_at_all (λ j l. h.left j ≤ l) h.left f (h.left f + 1) (omega arith) (λ j _. omega arith))
-      (with_at_all (λ j l. l ≤ length (s.sent j)) h.left f (h.left f + 1) (omega (arith, d.2)) (λ j _. h.within j))
-      (λ j p. with_at_all (λ i l. cond {A = ℕ} (nat_lt p (h.left i)) 1 0 + cond (is_at i p m) 1 0 ≡ cond (nat_lt p l) 1 0) h.left f
-      (h.left f + 1)
-      (ap (λ (b : Bool). cond {A = ℕ} (nat_lt p (h.left f)) 1 0 + cond (b && (position m == p)) 1 0) is
-      ∙ (ap (λ (k : ℕ). cond {A = ℕ} (nat_lt p (h.left f)) 1 0 + cond (k == p) 1 0) at' ∙ one_more p (h.left f)))
-      (λ i ne. ap (λ (b : Bool). cond {A = ℕ} (nat_lt p (h.left i)) 1 0 + cond (b && (position m == p)) 1 0) (of_one f i m is ne)
-      ∙ (let z : cond {A = ℕ} (nat_lt p (h.left i)) 1 0 + 0 ≡ cond (nat_lt p (h.left i)) 1 0 = omega arith in z))
+      let taken' : ℕ → ℕ = with_at h.taken f (h.taken f + 1) in
+      let here : taken' f ≡ h.taken f + 1 = with_at_here h.taken f (h.taken f + 1) in
+      let d = drop_front (s.sent f) (h.taken f) m (of f ms) (sym (h.rest f) ∙ (ap (of f) front ∙ front_yes f m ms is)) in
+      let at' : position m ≡ h.taken f = let r = (from_place f 0 (s.sent f) (h.taken f) m (h.lists f) d.0).1 in omega arith in
+      takes n s h w m ms front below undone taken'
+      (with_at_all (λ j l. h.taken j ≤ l) h.taken f (h.taken f + 1) (omega arith) (λ j _. omega arith))
+      (with_at_all (λ j l. l ≤ length (s.sent j)) h.taken f (h.taken f + 1) (omega (arith, d.2)) (λ j _. h.within j))
+      (λ j p. with_at_all (λ i l. cond {A = ℕ} (nat_lt p (h.taken i)) 1 0 + cond (is_at i p m) 1 0 ≡ cond (nat_lt p l) 1 0) h.taken f
+      (h.taken f + 1)
+      (ap (λ (b : Bool). cond {A = ℕ} (nat_lt p (h.taken f)) 1 0 + cond (b && (position m == p)) 1 0) is
+      ∙ (ap (λ (k : ℕ). cond {A = ℕ} (nat_lt p (h.taken f)) 1 0 + cond (k == p) 1 0) at' ∙ one_more p (h.taken f)))
+      (λ i ne. ap (λ (b : Bool). cond {A = ℕ} (nat_lt p (h.taken i)) 1 0 + cond (b && (position m == p)) 1 0) (of_one f i m is ne)
+      ∙ (let z : cond {A = ℕ} (nat_lt p (h.taken i)) 1 0 + 0 ≡ cond (nat_lt p (h.taken i)) 1 0 = omega arith in z))
       j)
-      (placed_all s.sent left' m (λ j e. subst (λ i. (position m < left' i) × (slice_get (s.sent i) (position m) ≡ Some m))
+      (placed_all s.sent taken' m (λ j e. subst (λ i. (position m < taken' i) × (slice_get (s.sent i) (position m) ≡ Some m))
       (sym (one_file f j m is e)) (omega (arith, at', here), ap (slice_get (s.sent f)) at' ∙ d.0)))
-      (λ j e. at' ∙ ap h.left (sym (one_file f j m is e)))
-      (with_at_all (λ j l. of j ms ≡ drop l (s.sent j)) h.left f (h.left f + 1)
-      (sym d.1 ∙ ap (λ k. drop k (s.sent f)) (let z : suc (h.left f) ≡ h.left f + 1 = omega arith in z))
+      (λ j e. at' ∙ ap h.taken (sym (one_file f j m is e)))
+      (with_at_all (λ j l. of j ms ≡ drop l (s.sent j)) h.taken f (h.taken f + 1)
+      (sym d.1 ∙ ap (λ k. drop k (s.sent f)) (let z : suc (h.taken f) ≡ h.taken f + 1 = omega arith in z))
       (λ j ne. sym (front_no j m ms (of_one f j m is ne)) ∙ (sym (ap (of j) front) ∙ h.rest j)))
 
 take_any : (n : Size) (s : State) (h : IsLawful n s) (w : ℕ) (m : Taken) (ms : List Taken) → s.queue ≡ m ∷ ms → w < n.takers

@@ -1,11 +1,11 @@
+pub mod Ends
+pub mod Joining
+pub mod Keeps
 pub mod Lists
 pub mod Messages
-pub mod Keeps
+pub mod Opens
+pub mod Progress
+pub mod Rules
 pub mod Seats
 pub mod Steps
 pub mod Wholes
-pub mod Rules
-pub mod Ends
-pub mod Opens
-pub mod Joining
-pub mod Progress

@@ -87,25 +87,25 @@ from_place f k (End g n ∷ ms) zero m h e =
 from_place f k (End g n ∷ ms) (suc i) m h e = let q : slice_get ms i ≡ None = ap (λ (l : List Taken). slice_get l i) h.2 in absurd (cc)
 from_place f k (_ ∷ ms) i m h e = absurd h
 
-pub placed_pos : (sent : ℕ → List Taken) (left : ℕ → ℕ) (f : ℕ) (m : Taken) → IsPlaced sent left m → is_of f m ≡ true
-    → (position m < left f) × (slice_get (sent f) (position m) ≡ Some m)
-placed_pos sent left f (Row g p b) h e = let q : g ≡ f =
-    eqb-true g f e in (subst (λ k. p < left k) q h.0, subst (λ k. slice_get (sent k) p ≡ Some (Row g p b)) q h.1)
-placed_pos sent left f (End g n) h e = let q : g ≡ f =
-    eqb-true g f e in (subst (λ k. n < left k) q h.0, subst (λ k. slice_get (sent k) n ≡ Some (End g n)) q h.1)
-placed_pos sent left f _ h e = absurd (cc)
+pub placed_pos : (sent : ℕ → List Taken) (taken : ℕ → ℕ) (f : ℕ) (m : Taken) → IsPlaced sent taken m → is_of f m ≡ true
+    → (position m < taken f) × (slice_get (sent f) (position m) ≡ Some m)
+placed_pos sent taken f (Row g p b) h e = let q : g ≡ f =
+    eqb-true g f e in (subst (λ k. p < taken k) q h.0, subst (λ k. slice_get (sent k) p ≡ Some (Row g p b)) q h.1)
+placed_pos sent taken f (End g n) h e = let q : g ≡ f =
+    eqb-true g f e in (subst (λ k. n < taken k) q h.0, subst (λ k. slice_get (sent k) n ≡ Some (End g n)) q h.1)
+placed_pos sent taken f _ h e = absurd (cc)
 
-pub placed_all : (sent : ℕ → List Taken) (left : ℕ → ℕ) (m : Taken)
-    → ((f : ℕ) → is_of f m ≡ true → (position m < left f) × (slice_get (sent f) (position m) ≡ Some m)) → IsPlaced sent left m
-placed_all sent left (Row g p b) h = h g (eq-eqb g g refl)
-placed_all sent left (End g n) h = h g (eq-eqb g g refl)
-placed_all sent left _ h = tt
+pub placed_all : (sent : ℕ → List Taken) (taken : ℕ → ℕ) (m : Taken)
+    → ((f : ℕ) → is_of f m ≡ true → (position m < taken f) × (slice_get (sent f) (position m) ≡ Some m)) → IsPlaced sent taken m
+placed_all sent taken (Row g p b) h = h g (eq-eqb g g refl)
+placed_all sent taken (End g n) h = h g (eq-eqb g g refl)
+placed_all sent taken _ h = tt
 
-pub placed_later : (sent sent' : ℕ → List Taken) (left left' : ℕ → ℕ)
-    → ((f p : ℕ) (m : Taken) → slice_get (sent f) p ≡ Some m → slice_get (sent' f) p ≡ Some m) → ((f : ℕ) → left f ≤ left' f) → (m : Taken)
-    → IsPlaced sent left m → IsPlaced sent' left' m
-placed_later sent sent' left left' keeps grows m h =
-    placed_all sent' left' m (λ f e. let p = placed_pos sent left f m h e in (omega (arith, p.0, grows f), keeps f (position m) m p.1))
+pub placed_later : (sent sent' : ℕ → List Taken) (taken taken' : ℕ → ℕ)
+    → ((f p : ℕ) (m : Taken) → slice_get (sent f) p ≡ Some m → slice_get (sent' f) p ≡ Some m) → ((f : ℕ) → taken f ≤ taken' f) → (m : Taken)
+    → IsPlaced sent taken m → IsPlaced sent' taken' m
+placed_later sent sent' taken taken' keeps grows m h =
+    placed_all sent' taken' m (λ f e. let p = placed_pos sent taken f m h e in (omega (arith, p.0, grows f), keeps f (position m) m p.1))
 
 below_cases : (P : ℕ → Type 0) (m : Taken) (rest : List Taken) (b : Bool) → (b ≡ true → P (position m))
     → AllByRecursion P (map position rest) → AllByRecursion P (map position (cond b (m ∷ rest) rest))
@@ -113,11 +113,11 @@ below_cases P m rest true h r = (h refl, r)
 below_cases P m rest false h r = r
 
 -- the positions taken of a file are among those that left
-pub placed_below : (sent : ℕ → List Taken) (left : ℕ → ℕ) (f : ℕ) (ms : List Taken) → AllByRecursion (IsPlaced sent left) ms
-    → AllByRecursion (λ p. p < left f) (map position (of f ms))
-placed_below sent left f [] h = tt
-placed_below sent left f (m ∷ ms) h =
-    below_cases (λ p. p < left f) m (of f ms) (is_of f m) (λ e. (placed_pos sent left f m h.0 e).0) (placed_below sent left f ms h.1)
+pub placed_below : (sent : ℕ → List Taken) (taken : ℕ → ℕ) (f : ℕ) (ms : List Taken) → AllByRecursion (IsPlaced sent taken) ms
+    → AllByRecursion (λ p. p < taken f) (map position (of f ms))
+placed_below sent taken f [] h = tt
+placed_below sent taken f (m ∷ ms) h =
+    below_cases (λ p. p < taken f) m (of f ms) (is_of f m) (λ e. (placed_pos sent taken f m h.0 e).0) (placed_below sent taken f ms h.1)
 
 pub marks_more : (ms : List Taken) (m : Taken) → is_done ms ≡ false → MarksLast (ms ++ m ∷ [])
 marks_more [] m e = ((λ _. refl), tt)

@@ -6,27 +6,27 @@ use Rattle.lane.specs.Rule.{Role, Putter, Taker, Closer, role_of, put_parts, tak
 use Rattle.lane.specs.Steps.{IsFree}
 use Rattle.lane.specs.inner.Views.{without_second, second_alone}
 use Rattle.lane.specs.Ends.{Lane, AreEndsFrom, ends_from, PutEndView, first_puts}
-use Rattle.lane.specs.inner.Kept.{MayGive, puts_left, takes_left}
+use Rattle.lane.specs.inner.Kept.{MayGive, puts_remaining, takes_remaining}
 use Rattle.lane.proofs.Seats.{all_joined}
 use Rattle.lane.proofs.Rules.{gives, free_parts}
 use Rattle.std.proofs.lemmas.List.Elements.{All-nil, All-cons}
 
 -- the first part that remains
-one_left : (f k : ℕ) → k < f → f - k ≡ suc (f - (k + 1))
-one_left f k l = omega arith
+one_remains : (f k : ℕ) → k < f → f - k ≡ suc (f - (k + 1))
+one_remains f k l = omega arith
 
 given_away : (v : List Part) (first part : Part) (rest : List Part) (role : Role) → v ≡ first ∷ part ∷ rest → role_of part ≡ Some role
     → IsFree role (first ∷ rest) → MayGive v × (without_second v ≡ first ∷ rest) × (second_alone v ≡ part ∷ [])
 given_away v first part rest role e named free =
     (subst MayGive (sym e) (λ pass. gives pass first part rest role named free), ap without_second e, ap second_alone e)
 
-pub put_given : (f w c k : ℕ) → k < f → MayGive (puts_left f w c k) × (without_second (puts_left f w c k) ≡ puts_left f w c (k + 1))
-    × (second_alone (puts_left f w c k) ≡ Put k c [] ∷ [])
+pub put_given : (f w c k : ℕ) → k < f → MayGive (puts_remaining f w c k) × (without_second (puts_remaining f w c k) ≡ puts_remaining f w c (k + 1))
+    × (second_alone (puts_remaining f w c k) ≡ Put k c [] ∷ [])
 put_given f w c k l =
     let puts : List Part = put_parts c (k + 1) (replicate (f - (k + 1)) []) in
     let takes : List Part = take_parts c 0 (replicate w []) in
-    given_away (puts_left f w c k) (Close f w c 0 0) (Put k c []) (puts ++ takes) (Putter k)
-    (ap (λ n. Close f w c 0 0 ∷ (put_parts c k (replicate n []) ++ take_parts c 0 (replicate w []))) (one_left f k l)) refl (
+    given_away (puts_remaining f w c k) (Close f w c 0 0) (Put k c []) (puts ++ takes) (Putter k)
+    (ap (λ n. Close f w c 0 0 ∷ (put_parts c k (replicate n []) ++ take_parts c 0 (replicate w []))) (one_remains f k l)) refl (
       (λ (x : Some Closer ≡ Some (Putter k)). cc),
       all_joined (λ p. role_of p ≡ Some (Putter k) → ⊥) puts takes
           (free_parts (Putter k) (λ i y. Put i c y) (k + 1) (replicate (f - (k + 1)) [])
@@ -34,11 +34,11 @@ put_given f w c k l =
           (free_parts (Putter k) (λ i y. Take i c y) 0 (replicate w []) (λ j y le. λ (x : Some (Taker j) ≡ Some (Putter k)). cc)),
     )
 
-pub take_given : (f w c k : ℕ) → k < w → MayGive (takes_left f w c k) × (without_second (takes_left f w c k) ≡ takes_left f w c (k + 1))
-    × (second_alone (takes_left f w c k) ≡ Take k c [] ∷ [])
+pub take_given : (f w c k : ℕ) → k < w → MayGive (takes_remaining f w c k) × (without_second (takes_remaining f w c k) ≡ takes_remaining f w c (k + 1))
+    × (second_alone (takes_remaining f w c k) ≡ Take k c [] ∷ [])
 take_given f w c k l =
-    given_away (takes_left f w c k) (Close f w c 0 0) (Take k c []) (take_parts c (k + 1) (replicate (w - (k + 1)) [])) (Taker k)
-    (ap (λ n. Close f w c 0 0 ∷ take_parts c k (replicate n [])) (one_left w k l)) refl (
+    given_away (takes_remaining f w c k) (Close f w c 0 0) (Take k c []) (take_parts c (k + 1) (replicate (w - (k + 1)) [])) (Taker k)
+    (ap (λ n. Close f w c 0 0 ∷ take_parts c k (replicate n [])) (one_remains w k l)) refl (
       (λ (x : Some Closer ≡ Some (Taker k)). cc),
       free_parts (Taker k) (λ i y. Take i c y) (k + 1) (replicate (w - (k + 1)) [])
           (λ j y le. λ (x : Some (Taker j) ≡ Some (Taker k)). let z : j ≡ k = cc in let bad : ⊥ = omega arith in bad),

@@ -9,7 +9,7 @@ use Rattle.lane.specs.MessageKinds.{is_row, is_end, is_stop, is_quit, row_count,
 use Rattle.lane.specs.MessageOrders.{MarksLast}
 use Rattle.lane.specs.Machine.{Size, State, opening, Event, PutRow, PutEnd, PutStop, PutQuit, TakeNext, HasRoom, Allowed, with_at, put, take_next, after, after_all}
 use Rattle.lane.specs.Lawful.{over, IsLawful}
-use Rattle.lane.specs.Threads.{Closing, ByStops, ByQuits, Threads, AreThreads, HaveEnded, marks, IsNext, CanContinue, AreSteps, HaveFinished, IsUnderway, puts_left, steps_left}
+use Rattle.lane.specs.Threads.{Closing, ByStops, ByQuits, Threads, AreThreads, HaveEnded, marks, IsNext, CanContinue, AreSteps, HaveFinished, IsUnderway, puts_remaining, steps_remaining}
 use Rattle.lane.specs.Laws.{SomeThreadCanContinue, StepsRunOut, RunsEnd}
 use Rattle.lane.proofs.Lists.{some_at, count_more, count_front, with_at_all, with_at_here, with_at_else, over_same, over_at}
 use Rattle.lane.proofs.Keeps.{begins, keeps}
@@ -206,9 +206,9 @@ some_thread_can_continue n t s are h u = some_continues n t s are h u
 
 -- a file with one message appended
 module _ (t : Threads) (s : State) (f : ℕ) (m : Taken) (below : f < t.readers) where
-  puts_less : puts_left t (put f m s) f + 1 ≡ puts_left t s f → steps_left t (put f m s) + 1 ≡ steps_left t s
+  puts_less : puts_remaining t (put f m s) f + 1 ≡ puts_remaining t s f → steps_remaining t (put f m s) + 1 ≡ steps_remaining t s
   puts_less less =
-      let c = over_change t.readers (λ j. puts_left t (put f m s) j) (λ j. puts_left t s j) f below
+      let c = over_change t.readers (λ j. puts_remaining t (put f m s) j) (λ j. puts_remaining t s j) f below
       (λ j ne. ap (λ (l : List Taken). (length (t.blocks j) - row_count l) + cond (has_end l) 0 1)
       (with_at_else s.sent f (s.sent f ++ m ∷ []) j ne)) in
       omega (arith, length-append s.queue (m ∷ []))
@@ -223,7 +223,7 @@ module _ (t : Threads) (s : State) (f : ℕ) (m : Taken) (below : f < t.readers)
     ended = λ some. absurd (true≢false (sym (u.ended some f below) ∙ open'));
   }
 
-take_less : (t : Threads) (s : State) (w : ℕ) (q : List Taken) → s.queue ≡ q → q ≢ [] → steps_left t (take_next w q s) + 1 ≡ steps_left t s
+take_less : (t : Threads) (s : State) (w : ℕ) (q : List Taken) → s.queue ≡ q → q ≢ [] → steps_remaining t (take_next w q s) + 1 ≡ steps_remaining t s
 take_less t s w [] e some = absurd (some refl)
 take_less t s w (m ∷ rest) e some = omega (arith, ap (λ (ms : List Taken). length ms) e)
 
@@ -291,7 +291,7 @@ stays_underway n t s (TakeNext w) u next allowed = take_underway t s w s.queue u
 
 -- during the steps of the threads
 steps_end : (n : Size) (t : Threads) (s : State) (es : List Event) → AreThreads n t → IsLawful n s → IsUnderway t s → AreSteps n t s es
-    → (length es + steps_left t (after_all s es) ≡ steps_left t s) × (HaveFinished t (after_all s es) ⊎ CanContinue n t (after_all s es))
+    → (length es + steps_remaining t (after_all s es) ≡ steps_remaining t s) × (HaveFinished t (after_all s es) ⊎ CanContinue n t (after_all s es))
 steps_end n t s [] are h u a = (omega arith, some_continues n t s are h u)
 steps_end n t s (e ∷ es) are h u a =
     let r = steps_end n t (after s e) es are (keeps n s e h a.1) (stays_underway n t s e u a.0 a.1) a.2 in
@@ -310,5 +310,5 @@ runs_end n t events are steps =
       ended = λ some. absurd (omega arith);
     })
     steps in
-    let all = over_same t.readers (λ f. puts_left t opening f) (λ f. length (t.blocks f) + 1) (λ f _. omega arith) in
+    let all = over_same t.readers (λ f. puts_remaining t opening f) (λ f. length (t.blocks f) + 1) (λ f _. omega arith) in
     (omega (arith, r.0), r.1)

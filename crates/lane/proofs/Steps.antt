@@ -13,7 +13,7 @@ use Rattle.lane.specs.MessageKinds.{has_end, is_done, row_count}
 use Rattle.lane.specs.Machine.{Size, State, opening, Event, PutRow, PutEnd, PutStop, PutQuit, TakeNext, Allowed, with_at, put, take_front, take_next, after, after_all}
 use Rattle.lane.specs.Rule.{Role, Putter, Taker, Closer, IsRole, part_of, IsSeated, AreSeated, IsLaneAt}
 use Rattle.lane.specs.Steps.{with_message, IsFree, HasEnded, PutSends, CloseSends}
-use Rattle.lane.specs.Laws.{RunsStayLawful, leaves, leaving, LeftIsPrefixOfSent, TakenIsPrefixOfSent, send_event, SendIsAnEvent, ReceiveIsAnEvent, SplitIsNoEvent, JoinIsNoEvent}
+use Rattle.lane.specs.Laws.{RunsStayLawful, leaves, leaving, LeavingIsPrefixOfSent, TakenIsPrefixOfSent, send_event, SendIsAnEvent, ReceiveIsAnEvent, SplitIsNoEvent, JoinIsNoEvent}
 use Rattle.lane.proofs.Lists.{with_at_here, with_at_else, with_at_all}
 use Rattle.lane.proofs.Messages.{of_yes, of_no, of_one, front_yes, front_no}
 use Rattle.lane.proofs.Keeps.{begins, keeps, keeps_all, reaches}
@@ -24,8 +24,8 @@ runs_stay_lawful n events allowed = keeps_all n opening events (begins n) allowe
 
 pub taken_is_prefix : TakenIsPrefixOfSent
 taken_is_prefix n s h f = record {
-  left = h.left;
-  split = ap (λ l. take (h.left f) (s.sent f) ++ l) (h.rest f) ∙ take-append-drop (h.left f) (s.sent f);
+  taken = h.taken;
+  split = ap (λ l. take (h.taken f) (s.sent f) ++ l) (h.rest f) ∙ take-append-drop (h.taken f) (s.sent f);
   once = h.once f;
   placed = h.placed;
 }
@@ -238,5 +238,5 @@ run_leaves s (e ∷ es) pre f h =
     ap (λ l. of f l ++ of f (after_all (after s e) es).queue) (sym (append_assoc pre (leaves s e) (leaving (after s e) es)))
     ∙ run_leaves (after s e) es (pre ++ leaves s e) f (event_leaves s e pre f h)
 
-pub left_is_prefix : LeftIsPrefixOfSent
-left_is_prefix n events allowed f = run_leaves opening events [] f refl
+pub leaving_is_prefix : LeavingIsPrefixOfSent
+leaving_is_prefix n events allowed f = run_leaves opening events [] f refl

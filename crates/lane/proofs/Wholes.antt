@@ -36,23 +36,23 @@ none_between n k [] a b l = refl
 none_between n k (m ∷ ms) a b l = absurd (let x = a.0 in let y = b.0 in let z : ⊥ = omega arith in z)
 
 -- if all rows are at their positions and rise, nothing follows an end mark
-ends_close : (sent : ℕ → List Taken) (left : ℕ → ℕ) → ((f : ℕ) → IsFrom f 0 (sent f)) → ((f : ℕ) → left f ≤ length (sent f))
-    → (ms : List Taken) → AllByRecursion (IsPlaced sent left) ms → Rises ms → EndsClose ms
-ends_close sent left lists within [] h r = tt
-ends_close sent left lists within (End f n ∷ ms) h r =
+ends_close : (sent : ℕ → List Taken) (taken : ℕ → ℕ) → ((f : ℕ) → IsFrom f 0 (sent f)) → ((f : ℕ) → taken f ≤ length (sent f))
+    → (ms : List Taken) → AllByRecursion (IsPlaced sent taken) ms → Rises ms → EndsClose ms
+ends_close sent taken lists within [] h r = tt
+ends_close sent taken lists within (End f n ∷ ms) h r =
     let all : IsStrictlyIncreasing (n ∷ map position (of f ms)) =
     subst (λ (l : List Taken). IsStrictlyIncreasing (map position l)) (front_yes f (End f n) ms (eq-eqb f f refl)) (r f) in
     let last : length (sent f) ≡ suc n = (from_place f 0 (sent f) n (End f n) (lists f) h.0.1).2 refl in
     let above = recursion_from_All (λ p. n < p) (map position (of f ms))
     (λ k d within. AllPairs-from_increasing (n ∷ map position (of f ms)) all 0 (suc k) d (omega arith) (omega arith)) in (
-      none_between n (left f) (of f ms) above (placed_below sent left f ms h.1) (omega (arith, last, within f)),
-      ends_close sent left lists within ms h.1 (rises_tail (End f n) ms r),
+      none_between n (taken f) (of f ms) above (placed_below sent taken f ms h.1) (omega (arith, last, within f)),
+      ends_close sent taken lists within ms h.1 (rises_tail (End f n) ms r),
     )
-ends_close sent left lists within (m ∷ ms) h r = ends_close sent left lists within ms h.1 (rises_tail m ms r)
+ends_close sent taken lists within (m ∷ ms) h r = ends_close sent taken lists within ms h.1 (rises_tail m ms r)
 
 pub ordered : (n : Size) (s : State) (w : ℕ) → IsLawful n s → IsOrdered (s.took w)
 ordered n s w h =
-    record { rises = h.rises w; ends = ends_close s.sent h.left h.lists h.within (s.took w) (h.placed w) (h.rises w); marks = h.marks w }
+    record { rises = h.rises w; ends = ends_close s.sent h.taken h.lists h.within (s.took w) (h.placed w) (h.rises w); marks = h.marks w }
 
 over_least : (n : ℕ) (g : ℕ → ℕ) → ((k : ℕ) → k < n → 1 ≤ g k) → n ≤ over n g
 over_least zero g h = omega arith
@@ -82,9 +82,9 @@ has_stop (Stop ∷ ms) h = omega (arith, count_front is_stop Stop ms)
 has_stop (Quit ∷ ms) h = absurd h
 has_stop (x ∷ ms) h = omega (arith, count_front is_stop x ms, has_stop ms h)
 
-no_stops_left : (ms : List Taken) → AreStops ms → count_by is_stop ms ≡ 0 → ms ≡ []
-no_stops_left [] h c = refl
-no_stops_left (m ∷ ms) h c =
+no_stops_remain : (ms : List Taken) → AreStops ms → count_by is_stop ms ≡ 0 → ms ≡ []
+no_stops_remain [] h c = refl
+no_stops_remain (m ∷ ms) h c =
     absurd (true≢false (sym h.0 ∙ (counted_none (is_stop m) (count_by is_stop ms) (sym (count_front is_stop m ms) ∙ c)).0))
 
 -- all Stops were put, and these are the lists of the lane's files and takers, who are all done
@@ -108,15 +108,15 @@ module _ (n : Size) (s : State) (h : IsLawful n s) (sent took : List (List Taken
   pub queue_empty : s.queue ≡ []
   queue_empty =
       let all = over_least n.takers (λ w. count_by is_stop (s.took w)) (λ w l. has_stop (s.took w) (taker_stops w l)) in
-      no_stops_left s.queue (h.stopped 0
+      no_stops_remain s.queue (h.stopped 0
       (let c = has_stop (s.took 0) (taker_stops 0 some') in let z : 0 < count_by is_stop (s.took 0) =
       omega arith in z)) (omega (arith, h.stops, all))
 
-  all_left : (f : ℕ) → h.left f ≡ length (s.sent f)
-  all_left f =
-      let e : [] ≡ drop (h.left f) (s.sent f) = ap (of f) (sym queue_empty) ∙ h.rest f in
+  all_taken : (f : ℕ) → h.taken f ≡ length (s.sent f)
+  all_taken f =
+      let e : [] ≡ drop (h.taken f) (s.sent f) = ap (of f) (sym queue_empty) ∙ h.rest f in
       let l = ap (λ (x : List Taken). length x) e in
-      omega (arith, length-drop (h.left f) (s.sent f), h.within f)
+      omega (arith, length-drop (h.taken f) (s.sent f), h.within f)
 
   sent_here : (f : ℕ) (p : ℕ) (m : Taken) → slice_get (s.sent f) p ≡ Some m → (l : List Taken) × (slice_get sent f ≡ Some l)
       × (slice_get l p ≡ Some m)
@@ -126,7 +126,7 @@ module _ (n : Size) (s : State) (h : IsLawful n s) (sent took : List (List Taken
       let x = some_at sent f (omega arith) in
       (x.0, x.1, ap (λ (l : List Taken). slice_get l p) (sent_is f x.0 x.1) ∙ e)
 
-  was_sent : (m : Taken) → IsPlaced s.sent h.left m → IsSent sent m
+  was_sent : (m : Taken) → IsPlaced s.sent h.taken m → IsSent sent m
   was_sent (Row f p b) q = sent_here f p (Row f p b) q.1
   was_sent (End f k) q = sent_here f k (End f k) q.1
   was_sent _ q = tt
@@ -142,11 +142,11 @@ module _ (n : Size) (s : State) (h : IsLawful n s) (sent took : List (List Taken
         let F : List Taken → ℕ = λ x. count_by (is_at f p) x in
         ap (sum_by F) (sym (take-length took))
         ∙ (sum_front F s.took took took_is (length took) (omega arith) ∙ ap (λ k. over k (λ j. F (s.took j))) takers)
-        ∙ (h.once f p ∙ ap (λ (b : Bool). cond {A = ℕ} b 1 0) (lt-ltb p (h.left f) (omega (arith, all_left f))));
+        ∙ (h.once f p ∙ ap (λ (b : Bool). cond {A = ℕ} b 1 0) (lt-ltb p (h.taken f) (omega (arith, all_taken f))));
     only = All-from_recursion (λ (x : List Taken). All (IsSent sent) x) took (all_at (λ (x : List Taken). All (IsSent sent) x) took
         (λ w l e. All-from_recursion (IsSent sent) l
-        (all_weaker (IsPlaced s.sent h.left) (IsSent sent) was_sent l
-        (subst (AllByRecursion (IsPlaced s.sent h.left)) (sym (took_is w l e)) (h.placed w)))));
+        (all_weaker (IsPlaced s.sent h.taken) (IsSent sent) was_sent l
+        (subst (AllByRecursion (IsPlaced s.sent h.taken)) (sym (took_is w l e)) (h.placed w)))));
     stops = All-from_recursion EndsInStop took
         (all_at EndsInStop took (λ w l e. subst EndsInStop (sym (took_is w l e))
         (taker_stops w (let z = slice_get_within took w l e in omega arith))));

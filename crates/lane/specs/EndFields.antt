@@ -54,8 +54,8 @@ pub record SeatView : Type 0 where
   pub known : List Part
 
 -- the capacity of the lane's queue, in messages
-abbrev pub room_of : SeatView → ℕ
-room_of s = s.lane.2
+abbrev pub capacity_of : SeatView → ℕ
+capacity_of s = s.lane.2
 
 -- the lane of a channel, whose capacity is the channel's
 abbrev pub lane_at : {Q M L A : Type 0} → Rows (Badge (Key Taken)) (Doing Taken (List Part)) Q M (Key Taken) L A → Lane

@@ -15,10 +15,10 @@ over (suc n) g = over n g + g n
 
 -- the message is the one that its file sent at its position, and is among the first that left the queue
 abbrev pub IsPlaced : (ℕ → List Taken) → (ℕ → ℕ) → Taken → Type 0
-IsPlaced sent left (Row file place block) = (place < left file) × (slice_get (sent file) place ≡ Some (Row file place block))
-IsPlaced sent left (End file rows) = (rows < left file) × (slice_get (sent file) rows ≡ Some (End file rows))
-IsPlaced sent left Stop = Unit {0}
-IsPlaced sent left Quit = Unit {0}
+IsPlaced sent taken (Row file place block) = (place < taken file) × (slice_get (sent file) place ≡ Some (Row file place block))
+IsPlaced sent taken (End file rows) = (rows < taken file) × (slice_get (sent file) rows ≡ Some (End file rows))
+IsPlaced sent taken Stop = Unit {0}
+IsPlaced sent taken Quit = Unit {0}
 
 -- a state of the lane in which nothing is lost, duplicated or out of order
 pub record IsLawful (n : Size) (s : State) : Type 0 where
@@ -27,17 +27,17 @@ pub record IsLawful (n : Size) (s : State) : Type 0 where
   -- there are no other files and takers
   pub files : (file : ℕ) → n.files ≤ file → s.sent file ≡ []
   pub takers : (taker : ℕ) → n.takers ≤ taker → s.took taker ≡ []
-  -- `left` says how many messages of each file left: the first ones, each taken once, by one taker, and no others
-  pub left : ℕ → ℕ
-  pub within : (file : ℕ) → left file ≤ length (s.sent file)
-  pub once : (file p : ℕ) → over n.takers (λ taker. count_by (is_at file p) (s.took taker)) ≡ cond (nat_lt p (left file)) 1 0
-  pub placed : (taker : ℕ) → AllByRecursion (IsPlaced s.sent left) (s.took taker)
+  -- `taken` has the number of messages of each file that were taken: the first ones, each once, by one taker, and no others
+  pub taken : ℕ → ℕ
+  pub within : (file : ℕ) → taken file ≤ length (s.sent file)
+  pub once : (file p : ℕ) → over n.takers (λ taker. count_by (is_at file p) (s.took taker)) ≡ cond (nat_lt p (taken file)) 1 0
+  pub placed : (taker : ℕ) → AllByRecursion (IsPlaced s.sent taken) (s.took taker)
   -- in each taker's list the positions of one file rise
   pub rises : (taker : ℕ) → Rises (s.took taker)
   -- the queue has the remainder of each file's list, in order
-  pub rest : (file : ℕ) → of file s.queue ≡ drop (left file) (s.sent file)
+  pub rest : (file : ℕ) → of file s.queue ≡ drop (taken file) (s.sent file)
   -- after a Stop the queue has only Stops, and once a Stop was taken it has nothing else
-  pub behind : StopsLast s.queue
+  pub stops_last : StopsLast s.queue
   pub stopped : (taker : ℕ) → 0 < count_by is_stop (s.took taker) → AreStops s.queue
   -- a Stop is put only once every file has ended
   pub ended : 0 < s.stops → (file : ℕ) → file < n.files → has_end (s.sent file) ≡ true

@@ -13,7 +13,7 @@ use Rattle.lane.specs.Machine.{Size, State, opening, Event, PutRow, PutEnd, PutS
 use Rattle.lane.specs.Lawful.{over, IsPlaced, IsLawful}
 use Rattle.lane.specs.Whole.{IsWhole}
 use Rattle.lane.specs.Rule.{Role, role_of, IsLaneAt, IsLane, all_parts}
-use Rattle.lane.specs.Threads.{Threads, AreThreads, IsNext, CanContinue, AreSteps, HaveFinished, IsUnderway, steps_left, all_steps}
+use Rattle.lane.specs.Threads.{Threads, AreThreads, IsNext, CanContinue, AreSteps, HaveFinished, IsUnderway, steps_remaining, all_steps}
 use Rattle.lane.specs.Steps.{with_message, IsFree, MaySend, MayTake, taker_in, IsFull, full_view}
 
 -- from the opening state every sequence of allowed events leads to a lawful state
@@ -33,16 +33,16 @@ leaving s [] = []
 leaving s (e ∷ es) = leaves s e ++ leaving (after s e) es
 
 -- in every run, what has left of a file, in the order of leaving, and then what the queue has of it, is what the file sent
-abbrev pub LeftIsPrefixOfSent : Type 0
-LeftIsPrefixOfSent = (n : Size) (events : List Event) → AreAllowed n opening events → (file : ℕ) → of file (leaving opening events) ++ of file (after_all opening events).queue ≡ (after_all opening events).sent file
+abbrev pub LeavingIsPrefixOfSent : Type 0
+LeavingIsPrefixOfSent = (n : Size) (events : List Event) → AreAllowed n opening events → (file : ℕ) → of file (leaving opening events) ++ of file (after_all opening events).queue ≡ (after_all opening events).sent file
 
 -- in every lawful state the first messages of a file left, each once and no others, they were taken as they were sent, and the queue has
 -- the remainder of the file's list
 pub record IsPrefixTaken (n : Size) (s : State) (file : ℕ) : Type 0 where
-  pub left : ℕ → ℕ
-  pub split : take (left file) (s.sent file) ++ of file s.queue ≡ s.sent file
-  pub once : (p : ℕ) → over n.takers (λ taker. count_by (is_at file p) (s.took taker)) ≡ cond (nat_lt p (left file)) 1 0
-  pub placed : (taker : ℕ) → AllByRecursion (IsPlaced s.sent left) (s.took taker)
+  pub taken : ℕ → ℕ
+  pub split : take (taken file) (s.sent file) ++ of file s.queue ≡ s.sent file
+  pub once : (p : ℕ) → over n.takers (λ taker. count_by (is_at file p) (s.took taker)) ≡ cond (nat_lt p (taken file)) 1 0
+  pub placed : (taker : ℕ) → AllByRecursion (IsPlaced s.sent taken) (s.took taker)
 
 abbrev pub TakenIsPrefixOfSent : Type 0
 TakenIsPrefixOfSent = (n : Size) (s : State) → IsLawful n s → (file : ℕ) → IsPrefixTaken n s file
@@ -102,7 +102,7 @@ SomeThreadCanContinue = (n : Size) (t : Threads) (s : State) → AreThreads n t 
 
 -- each step reduces the number of steps that remain by one
 abbrev pub StepsRunOut : Type 0
-StepsRunOut = (n : Size) (t : Threads) (s : State) (e : Event) → IsNext t s e → Allowed n s e → steps_left t (after s e) + 1 ≡ steps_left t s
+StepsRunOut = (n : Size) (t : Threads) (s : State) (e : Event) → IsNext t s e → Allowed n s e → steps_remaining t (after s e) + 1 ≡ steps_remaining t s
 
 -- however the steps of the threads interleave, from the opening state there are at most `all_steps`, and after any of them some thread can
 -- continue until all have finished

@@ -72,12 +72,12 @@ pub record IsUnderway (t : Threads) (s : State) : Type 0 where
   pub ended : 0 < marks s → HaveEnded t s
 
 -- what the file's reader must still put
-abbrev pub puts_left : Threads → State → ℕ → ℕ
-puts_left t s file = (length (t.blocks file) - row_count (s.sent file)) + cond (has_end (s.sent file)) 0 1
+abbrev pub puts_remaining : Threads → State → ℕ → ℕ
+puts_remaining t s file = (length (t.blocks file) - row_count (s.sent file)) + cond (has_end (s.sent file)) 0 1
 
 -- the number of steps that remain: two for each message that must still be put, and one for each that must still be taken
-abbrev pub steps_left : Threads → State → ℕ
-steps_left t s = 2 * (over t.readers (λ file. puts_left t s file) + (t.valuers - marks s)) + length s.queue
+abbrev pub steps_remaining : Threads → State → ℕ
+steps_remaining t s = 2 * (over t.readers (λ file. puts_remaining t s file) + (t.valuers - marks s)) + length s.queue
 
 -- the largest number of steps of the threads: each row, each end mark and each valuer's mark is put once and taken once
 abbrev pub all_steps : Threads → ℕ

@@ -78,7 +78,7 @@ impl Bell {
         let _left = self.word.fetch_update(
             Ordering::SeqCst,
             Ordering::SeqCst,
-            |word| Some(left(word)),
+            |word| Some(after_leaving(word)),
         );
     }
 
@@ -112,7 +112,7 @@ fn rung(word: u64) -> Option<u64> {
 }
 
 // Returns the word after a thread has left, with one call less if there is one.
-fn left(word: u64) -> u64 {
+fn after_leaving(word: u64) -> u64 {
     let calls = if called(word) == 0 { 0 } else { CALL };
     word.wrapping_sub(WAITER + calls)
 }

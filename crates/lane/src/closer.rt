@@ -5,7 +5,7 @@ ghost use Rattle.std.specs.List.{All, sum_by};
 ghost use Rattle.crossbeam_channel.specs.Ends.{receives_on};
 ghost use Rattle.lane.specs.MessageKinds.{is_done, row_count};
 ghost use Rattle.lane.specs.Rule.{put_parts};
-ghost use Rattle.lane.specs.EndFields.{sent_lists, taken_lists, room_of, marks_in, quits_in, closer_view, given_up_view, stopped_view};
+ghost use Rattle.lane.specs.EndFields.{sent_lists, taken_lists, capacity_of, marks_in, quits_in, closer_view, given_up_view, stopped_view};
 ghost use Rattle.lane.specs.Ends.{ArePutsFrom, AreTakesFrom, CloserView, GivenUpView, StoppedView};
 ghost use Rattle.lane.specs.inner.Kept.{IsChannelOf, IsJoined, IsStopping, IsAllIn, IsCloser};
 ghost use Rattle.lane.specs.Whole.{IsWhole};
@@ -35,14 +35,14 @@ impl Model for Closer {
     ghost view = { λ e. closer_view e.seat e.files e.takers };
 
     ghost invariant = { λ e. IsChannelOf e.seat.lane (receives_on e.receiver)
-        × IsCloser e.seat.known e.files e.takers (room_of e.seat) };
+        × IsCloser e.seat.known e.files e.takers (capacity_of e.seat) };
 }
 
 impl Closer {
     // Creates the closer of a lane whose other parts were given away.
     pub(crate) fn new(seat: SeatedSender, receiver: Receiver, files: u8, takers: u8) -> Closer
         requires channel { IsChannelOf seat.lane (receives_on receiver) }
-        requires part { seat.known ≡ Part.Close files takers (room_of seat) 0 0 ∷ [] }
+        requires part { seat.known ≡ Part.Close files takers (capacity_of seat) 0 0 ∷ [] }
         requires some_taker { 0 < takers }
         ensures value { result ≡ record { lane = seat.lane; files = files; takers = takers } }
     {
@@ -129,10 +129,10 @@ impl GivenUp {
 
 // Joins the parts of the ended puts to the closer's. Returns the number of their rows.
 fn join_puts(seat: &mut SeatedSender, files: u8, takers: u8, puts: Vec<EndedPut>) -> u64
-    requires part { seat.old.known ≡ Part.Close files takers (room_of seat.old) 0 0 ∷ [] }
+    requires part { seat.old.known ≡ Part.Close files takers (capacity_of seat.old) 0 0 ∷ [] }
     requires puts { ArePutsFrom seat.old.lane files 0 puts.items }
     ensures lane { seat.new.lane ≡ seat.old.lane }
-    ensures joined { IsJoined seat.new.known files takers (room_of seat.old) }
+    ensures joined { IsJoined seat.new.known files takers (capacity_of seat.old) }
     ensures lists { sent_lists seat.new.known ≡ map (λ put. put.sent) puts.items }
     ensures rows { result ≡ sum_by row_count (sent_lists seat.new.known) }
 {
@@ -145,10 +145,10 @@ fn join_puts(seat: &mut SeatedSender, files: u8, takers: u8, puts: Vec<EndedPut>
 
 // Sends a Stop for each taker.
 fn put_stops<R: Wait>(rt: &R, seat: &mut SeatedSender, files: u8, takers: u8)
-    requires joined { IsJoined seat.old.known files takers (room_of seat.old) }
+    requires joined { IsJoined seat.old.known files takers (capacity_of seat.old) }
     ensures stopped { seat.new ≡ record seat.old {
-      known = Part.Close files takers (room_of seat.old) takers 0
-          ∷ put_parts (room_of seat.old) 0 (sent_lists seat.old.known);
+      known = Part.Close files takers (capacity_of seat.old) takers 0
+          ∷ put_parts (capacity_of seat.old) 0 (sent_lists seat.old.known);
     } }
 {
     for _stop in 0..takers {
@@ -158,10 +158,10 @@ fn put_stops<R: Wait>(rt: &R, seat: &mut SeatedSender, files: u8, takers: u8)
 
 // Sends `n` Quits.
 fn put_quits<R: Wait>(rt: &R, seat: &mut SeatedSender, files: u8, takers: u8, n: u8)
-    requires part { seat.old.known ≡ Part.Close files takers (room_of seat.old) 0 0 ∷ [] }
+    requires part { seat.old.known ≡ Part.Close files takers (capacity_of seat.old) 0 0 ∷ [] }
     requires few { n ≤ takers }
     ensures quits { seat.new ≡ record seat.old
-        { known = Part.Close files takers (room_of seat.old) 0 n ∷ [] } }
+        { known = Part.Close files takers (capacity_of seat.old) 0 n ∷ [] } }
 {
     for _quit in 0..n {
         seat.put(rt, Taken::Quit);
@@ -184,7 +184,7 @@ impl Model for Stopped {
     ghost view = { λ e. stopped_view e.seat e.takers };
 
     ghost invariant = { λ e. IsChannelOf e.seat.lane (receives_on e.receiver)
-        × IsStopping e.seat.known e.takers (room_of e.seat)
+        × IsStopping e.seat.known e.takers (capacity_of e.seat)
         × (e.rows ≡ sum_by row_count (sent_lists e.seat.known)) };
 }
 
@@ -224,11 +224,11 @@ impl Stopped {
 
 // Joins the parts of the take ends to the closer's.
 fn join_takes(seat: &mut SeatedSender, takers: u8, takes: Vec<TakeEnd>)
-    requires stopped { IsStopping seat.old.known takers (room_of seat.old) }
+    requires stopped { IsStopping seat.old.known takers (capacity_of seat.old) }
     requires takes { AreTakesFrom seat.old.lane takers 0 takes.items }
     requires done { All (λ take. is_done take.took ≡ true) takes.items }
     ensures lane { seat.new.lane ≡ seat.old.lane }
-    ensures full { IsAllIn seat.new.known takers (room_of seat.old) }
+    ensures full { IsAllIn seat.new.known takers (capacity_of seat.old) }
     ensures sent { sent_lists seat.new.known ≡ sent_lists seat.old.known }
     ensures took { taken_lists seat.new.known ≡ map (λ take. take.took) takes.items }
 {

@@ -4,7 +4,7 @@
 ghost use Rattle.std.specs.Prelude.{List};
 ghost use Rattle.lane.specs.declared.part.Part.{Part};
 ghost use Rattle.lane.specs.Rule.{IsLane};
-ghost use Rattle.lane.specs.Laws.{RunsStayLawful, LeftIsPrefixOfSent, TakenIsPrefixOfSent, SendIsAnEvent, ReceiveIsAnEvent, MakeIsTheOpening, SplitIsNoEvent, JoinIsNoEvent, LookFindsNothing, SomeThreadCanContinue, StepsRunOut, RunsEnd};
+ghost use Rattle.lane.specs.Laws.{RunsStayLawful, LeavingIsPrefixOfSent, TakenIsPrefixOfSent, SendIsAnEvent, ReceiveIsAnEvent, MakeIsTheOpening, SplitIsNoEvent, JoinIsNoEvent, LookFindsNothing, SomeThreadCanContinue, StepsRunOut, RunsEnd};
 
 use crate::message::Taken;
 use crate::rule::{Parts, Rule};
@@ -26,8 +26,8 @@ pub fn runs_stay_lawful()
 ///
 /// - `runs`: this is true in every run of the machine, of the messages that left in the order of leaving.
 /// - `states`: this is true in every lawful state. Each message that left was taken once, as it was sent.
-pub fn what_left_is_a_prefix()
-    ensures runs { LeftIsPrefixOfSent }
+pub fn what_leaves_is_a_prefix()
+    ensures runs { LeavingIsPrefixOfSent }
     ensures states { TakenIsPrefixOfSent }
 {}
 

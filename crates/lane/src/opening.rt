@@ -5,8 +5,8 @@ ghost use Rattle.std.specs.Prelude.{◌≡◌, ◌≤◌, [], ◌∷◌, IfOk, O
 ghost use Rattle.crossbeam_channel.specs.Ends.{receives_on};
 ghost use Rattle.lane.specs.declared.part.Part.TheVariants.{Count};
 ghost use Rattle.lane.specs.Ends.{IsOpened, first_puts, first_takes};
-ghost use Rattle.lane.specs.EndFields.{room_of};
-ghost use Rattle.lane.specs.inner.Kept.{IsChannelOf, takes_left};
+ghost use Rattle.lane.specs.EndFields.{capacity_of};
+ghost use Rattle.lane.specs.inner.Kept.{IsChannelOf, takes_remaining};
 ghost use Rattle.lane.specs.Rule.{all_parts};
 ghost use Rattle.plan_parts.specs.declared.ranges.TheConstants.{MAX_CAPACITY, MAX_VALUERS, MAX_ZONES};
 
@@ -78,9 +78,9 @@ fn put_ends(
     files: u8,
     takers: u8,
 ) -> Result<Vec<PutEnd>, AllocError>
-    requires parts { seat.old.known ≡ all_parts files takers (room_of seat.old) }
-    ensures left { OnOk result (seat.new
-        ≡ record seat.old { known = takes_left files takers (room_of seat.old) 0 }) }
+    requires parts { seat.old.known ≡ all_parts files takers (capacity_of seat.old) }
+    ensures remaining { OnOk result (seat.new
+        ≡ record seat.old { known = takes_remaining files takers (capacity_of seat.old) 0 }) }
     ensures ends { IfOk result (λ ends. ends.items ≡ first_puts seat.old.lane 0 files) }
 {
     let mut ends = Vec::with_capacity(alloc, usize::from(files))?;
@@ -99,9 +99,9 @@ fn take_ends(
     takers: u8,
 ) -> Result<Vec<TakeEnd>, AllocError>
     requires channel { IsChannelOf seat.old.lane (receives_on receiver.now) }
-    requires parts { seat.old.known ≡ takes_left files takers (room_of seat.old) 0 }
-    ensures left { OnOk result (seat.new
-        ≡ record seat.old { known = Part.Close files takers (room_of seat.old) 0 0 ∷ [] }) }
+    requires parts { seat.old.known ≡ takes_remaining files takers (capacity_of seat.old) 0 }
+    ensures remaining { OnOk result (seat.new
+        ≡ record seat.old { known = Part.Close files takers (capacity_of seat.old) 0 0 ∷ [] }) }
     ensures ends { IfOk result (λ ends. ends.items ≡ first_takes seat.old.lane 0 takers) }
 {
     let mut ends = Vec::with_capacity(alloc, usize::from(takers))?;

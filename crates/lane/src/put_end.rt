@@ -1,7 +1,7 @@
 //! The end of the lane that a file's reader puts its rows into.
 
 ghost use Rattle.std.specs.Prelude.{◌≡◌, ◌<◌, ◌≤◌, ◌++◌, true, [], ◌∷◌, length};
-ghost use Rattle.lane.specs.EndFields.{room_of, put_end_view};
+ghost use Rattle.lane.specs.EndFields.{capacity_of, put_end_view};
 ghost use Rattle.lane.specs.inner.Kept.{IsClosers, IsOpenPut, IsEndedPut};
 ghost use Rattle.lane.specs.Message.{IsEndedFrom};
 ghost use Rattle.lane.specs.MessageKinds.{has_end, row_count};
@@ -28,13 +28,13 @@ impl Model for PutEnd {
 
     ghost view = { λ e. put_end_view e.seat e.file };
 
-    ghost invariant = { λ e. IsOpenPut e.seat.known e.file (room_of e.seat) e.rows };
+    ghost invariant = { λ e. IsOpenPut e.seat.known e.file (capacity_of e.seat) e.rows };
 }
 
 impl PutEnd {
     // Creates a put end that has sent nothing.
     pub(crate) fn new(seat: SeatedSender, file: u8) -> PutEnd
-        requires part { seat.known ≡ Part.Put file (room_of seat) [] ∷ [] }
+        requires part { seat.known ≡ Part.Put file (capacity_of seat) [] ∷ [] }
         ensures value { result ≡ record { lane = seat.lane; file = file; sent = [] } }
     {
         PutEnd {
@@ -106,7 +106,7 @@ impl Model for EndedPut {
 
     ghost view = { λ e. put_end_view e.seat e.file };
 
-    ghost invariant = { λ e. IsEndedPut e.seat.known e.file (room_of e.seat) e.rows };
+    ghost invariant = { λ e. IsEndedPut e.seat.known e.file (capacity_of e.seat) e.rows };
 }
 
 impl EndedPut {
@@ -116,7 +116,7 @@ impl EndedPut {
         requires lane { self.lane ≡ closer.old.lane }
         ensures joined { closer.new ≡ record closer.old {
           known = closer.old.known
-              ++ Part.Put self.file (room_of closer.old) self.sent ∷ [];
+              ++ Part.Put self.file (capacity_of closer.old) self.sent ∷ [];
         } }
         ensures ended { has_end self.sent ≡ true }
         ensures rows { result ≡ row_count self.sent }

@@ -9,7 +9,7 @@ ghost use Rattle.crossbeam_channel.specs.Fifo.{Forks};
 ghost use Rattle.lane.specs.Rule.{IsLane};
 ghost use Rattle.lane.specs.Whole.{IsWhole};
 ghost use Rattle.lane.specs.Steps.{with_message, MaySend, MayTake};
-ghost use Rattle.lane.specs.EndFields.{gathering_in, took_in, seated, room_of, SeatView};
+ghost use Rattle.lane.specs.EndFields.{gathering_in, took_in, seated, capacity_of, SeatView};
 ghost use Rattle.lane.specs.inner.Views.{IsOrdered, without_second, second_alone};
 ghost use Rattle.lane.specs.inner.Kept.{IsChannelOf, MayGive, IsClosers, IsAllIn};
 
@@ -82,7 +82,7 @@ impl SeatedSender {
     /// The part after the closer's, with its own sender.
     pub(crate) fn give_sender(&mut self) -> Result<SeatedSender, AllocError>
         requires may { MayGive self.old.known }
-        ensures left { OnOk result (self.new
+        ensures remaining { OnOk result (self.new
             ≡ record self.old { known = without_second self.old.known }) }
         ensures given { IfOk result (λ end. end
             ≡ record self.old { known = second_alone self.old.known }) }
@@ -104,7 +104,7 @@ impl SeatedSender {
     ) -> Result<SeatedReceiver, AllocError>
         requires channel { IsChannelOf self.old.lane (receives_on receiver.now) }
         requires may { MayGive self.old.known }
-        ensures left { OnOk result (self.new
+        ensures remaining { OnOk result (self.new
             ≡ record self.old { known = without_second self.old.known }) }
         ensures given { IfOk result (λ end. end
             ≡ record self.old { known = second_alone self.old.known }) }
@@ -143,7 +143,7 @@ impl SeatedSender {
 
     /// Sends the message.
     pub(crate) fn put<R: Wait>(&mut self, rt: &R, message: Taken)
-        requires may { MaySend (room_of self.old) self.old.known message }
+        requires may { MaySend (capacity_of self.old) self.old.known message }
         ensures sent { self.new ≡ record self.old { known = with_message self.old.known message } }
     {
         for _ in rt.forever() {
@@ -155,7 +155,7 @@ impl SeatedSender {
 
     // Tries to send the message, never sleeps, and returns whether the message was sent.
     fn put_soon<R: Wait>(&mut self, rt: &R, message: Taken) -> bool
-        requires may { MaySend (room_of self.old) self.old.known message }
+        requires may { MaySend (capacity_of self.old) self.old.known message }
         ensures sent { result ≡ true → self.new
             ≡ record self.old { known = with_message self.old.known message } }
         ensures kept { result ≡ false → self.new ≡ self.old }
@@ -172,7 +172,7 @@ impl SeatedSender {
     // Tries once more to send the message. If it cannot, sleeps until a message was taken. Returns whether the message
     // was sent.
     fn put_or_sleep<R: Wait>(&mut self, rt: &R, message: Taken) -> bool
-        requires may { MaySend (room_of self.old) self.old.known message }
+        requires may { MaySend (capacity_of self.old) self.old.known message }
         ensures sent { result ≡ true → self.new
             ≡ record self.old { known = with_message self.old.known message } }
         ensures kept { result ≡ false → self.new ≡ self.old }
@@ -188,7 +188,7 @@ impl SeatedSender {
 
     // Tries once to send the message, and returns whether it was sent.
     fn try_put<R: Wait>(&mut self, rt: &R, message: Taken) -> bool
-        requires may { MaySend (room_of self.old) self.old.known message }
+        requires may { MaySend (capacity_of self.old) self.old.known message }
         ensures sent { result ≡ true → self.new
             ≡ record self.old { known = with_message self.old.known message } }
         ensures kept { result ≡ false → self.new ≡ self.old }
@@ -207,7 +207,7 @@ impl SeatedSender {
     /// Looks once at a lane that is done: its queue is empty, so the lane is complete.
     pub(crate) fn look<R: Wait>(&mut self, rt: &R, receiver: &Receiver)
         requires channel { IsChannelOf self.old.lane (receives_on receiver.now) }
-        requires full { (takers : ℕ) × IsAllIn self.old.known takers (room_of self.old) }
+        requires full { (takers : ℕ) × IsAllIn self.old.known takers (capacity_of self.old) }
         ensures kept { self.new ≡ self.old }
         ensures whole { IsWhole (gathering_in self.new.known) }
     {

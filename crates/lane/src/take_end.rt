@@ -1,7 +1,7 @@
 //! The end of the lane that a valuer takes from.
 
 ghost use Rattle.std.specs.Prelude.{◌≡◌, false, ◌++◌, [], ◌∷◌};
-ghost use Rattle.lane.specs.EndFields.{room_of, take_end_view, took_in};
+ghost use Rattle.lane.specs.EndFields.{capacity_of, take_end_view, took_in};
 ghost use Rattle.lane.specs.inner.Kept.{IsClosers, IsTake};
 ghost use Rattle.lane.specs.Message.{Rises};
 ghost use Rattle.lane.specs.MessageKinds.{is_done, ends_in_mark};
@@ -27,14 +27,14 @@ impl Model for TakeEnd {
 
     ghost view = { λ e. take_end_view e.seat e.taker };
 
-    ghost invariant = { λ e. IsTake e.seat.known e.taker (room_of e.seat)
+    ghost invariant = { λ e. IsTake e.seat.known e.taker (capacity_of e.seat)
         × (e.done ≡ is_done (took_in e.seat.known)) };
 }
 
 impl TakeEnd {
     // Creates a take end that has taken nothing.
     pub(crate) fn new(seat: SeatedReceiver, taker: u8) -> TakeEnd
-        requires part { seat.known ≡ Part.Take taker (room_of seat) [] ∷ [] }
+        requires part { seat.known ≡ Part.Take taker (capacity_of seat) [] ∷ [] }
         ensures value { result ≡ record { lane = seat.lane; taker = taker; took = [] } }
     {
         TakeEnd {
@@ -78,7 +78,7 @@ impl TakeEnd {
         requires lane { self.lane ≡ closer.old.lane }
         ensures joined { closer.new ≡ record closer.old {
           known = closer.old.known
-              ++ Part.Take self.taker (room_of closer.old) self.took ∷ [];
+              ++ Part.Take self.taker (capacity_of closer.old) self.took ∷ [];
         } }
     {
         closer.join_receiver(self.seat);

@@ -14,8 +14,8 @@ use Rattle.plan_parts.specs.declared.block.Block.{Block}
 use Rattle.plan_parts.specs.declared.resource.Resource.{Resource}
 use Rattle.precedence.specs.Identifier.{id}
 use Rattle.precedence.specs.Numbering.{IsNumbering, NumberingView}
-use Rattle.precedence.proofs.PlacesWhere.{numbered_more}
-use Rattle.precedence.proofs.runs.RunsOfRows.{range_more}
+use Rattle.precedence.proofs.PositionsWhere.{numbered_more}
+use Rattle.precedence.proofs.ranges.RangesOfRows.{range_more}
 use Rattle.mine_instance.specs.OfModel.{block_of_id, by_identifier}
 use Rattle.mine_instance.specs.coefs.CoveredPairs.{covers, pair_with, covering}
 
@@ -87,8 +87,8 @@ block_found listed n is k d h =
     absurd (omega arith))
     (λ other. other)
     (cases_Bool (id listed (get_or listed j d) == k)))
-    (λ g. eq-eqb _ _ (ap (id listed) (is.stands k d low) ∙ is.identifiers k d low)))
-    ∙ slice_get-get_or listed q d within ∙ ap Some (is.stands k d low)
+    (λ g. eq-eqb _ _ (ap (id listed) (is.at_position k d low) ∙ is.identifiers k d low)))
+    ∙ slice_get-get_or listed q d within ∙ ap Some (is.at_position k d low)
 
 -- if each number finds its element, the list of found elements
 all_found : {X : Type 0} (f : ℕ → Option X) (a : ℕ) (xs : List X) → ((k : ℕ) (d : X) → k < length xs → f (a + k) ≡ Some (get_or xs k d))

@@ -11,7 +11,7 @@ use Rattle.rows.specs.Valued.{worths_by}
 use Rattle.rows.specs.declared.item.Valued.{Valued}
 use Rattle.mine_instance.specs.OfModel.{in_hundreds, values_of}
 use Rattle.mine_instance.specs.WorthsOf.{AreWorthsOf}
-use Rattle.mine_instance.specs.inner.LazyValueFields.{found_at}
+use Rattle.mine_instance.specs.inner.LazyValueFields.{values_at}
 
 -- the worths of rows are the worths of their blocks
 worths_of_blocks : (plan : PlanParts) (rows : List Valued) → All (λ row. row.worths ≡ worths_by (formulas_of_plan plan) row.block) rows
@@ -41,7 +41,7 @@ numbered_at value blocks n is =
         let low : k < length listed = omega (arith, is.positions) in
         get_or-map own n.positions k 0 d (omega arith)
         ∙ get_or-map value listed (get_or n.positions k 0) b [] (is.within k low)
-        ∙ ap value (is.stands k b low)
+        ∙ ap value (is.at_position k b low)
         ∙ sym (get_or-map value n.blocks k b d (omega (arith, is.blocks)))
 
 -- a map in two steps
@@ -52,7 +52,7 @@ in_two_steps f g (x ∷ xs) = ap (λ ys. f (g x) ∷ ys) (in_two_steps f g xs)
 -- the worths of rows at the positions of their blocks' numbering make the values of the blocks in order of identifier
 pub values_found : (worths : List (List ℤ)) (positions : List ℕ) (plan : PlanParts) (rows : List Valued) (n : NumberingView)
     → AreWorthsOf plan worths rows → IsNumbering (blocks_of_rows rows) n → n.positions ≡ positions
-    → map (found_at worths) positions ≡ map (values_of plan) n.blocks
+    → map (values_at worths) positions ≡ map (values_of plan) n.blocks
 values_found worths positions plan rows n are is same =
     let worth : Block → List ℤ = worths_by (formulas_of_plan plan) in
     let own : worths ≡ map worth (blocks_of_rows rows) = are.0 ∙ worths_of_blocks plan rows are.1 in
@@ -74,5 +74,5 @@ row_values plan rows positions n i d is own same low =
     let worths = own (get_or positions i 0) d within in
     let own_block : block (get_or rows (get_or positions i 0) d) ≡ get_or n.blocks i d.block =
     sym (get_or-map block rows (get_or positions i 0) d d.block within)
-    ∙ (λ j. get_or (blocks_of_rows rows) (here j) d.block) ∙ is.stands i d.block low in
+    ∙ (λ j. get_or (blocks_of_rows rows) (here j) d.block) ∙ is.at_position i d.block low in
     (worths, ap (map in_hundreds) worths ∙ ap (values_of plan) own_block)

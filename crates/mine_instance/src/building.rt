@@ -17,8 +17,8 @@ ghost use Rattle.plan_parts.specs.declared.ranges.TheConstants.{MAX_BLOCKS, MAX_
 
 use crate::blocks::Blocks;
 use crate::coefs::coef::{Coef, Coefs};
-use crate::coefs::found::LazyCoefs;
 use crate::coefs::group::Covering;
+use crate::coefs::lazy::LazyCoefs;
 use crate::coefs::list::CoefList;
 use crate::instance::Instance;
 use crate::limits::Limits;

@@ -14,7 +14,7 @@ use precedence::{PredLists, Preds};
 use std::marker::Model;
 
 /// An instance of the production scheduling problem of MineLib (Espinoza, Goycoolea, Moreno and Newman 2013). Blocks, predecessors
-/// and values are in order of identifier. `P` has the predecessors: `Preds` stores their lists, and `FoundPreds` computes them
+/// and values are in order of identifier. `P` has the predecessors: `Preds` stores their lists, and `LazyPreds` computes them
 /// lazily. `C` has the coefficients: `Coefs` stores them, and `LazyCoefs` computes them lazily. `V` has the values: `Values`
 /// stores them, and `LazyValues` computes them lazily. Contracts see the lists in both cases.
 #[derive(Debug, Drop)]

@@ -14,7 +14,7 @@ mod validity;
 pub mod values;
 
 pub use building::{build, build_with};
-pub use coefs::found::LazyCoefs;
+pub use coefs::lazy::LazyCoefs;
 pub use cpit_building::build_cpit;
 pub use validity::is_valid;
-pub use values::found::LazyValues;
+pub use values::lazy::LazyValues;

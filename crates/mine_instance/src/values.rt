@@ -11,9 +11,9 @@ use std::alloc::AllocError;
 use std::marker::Model;
 
 pub mod block;
-pub mod found;
 pub mod in_hundreds;
 pub mod largest;
+pub mod lazy;
 pub mod list;
 
 /// The values of blocks in order of identifier, one for each destination, in units of 100 cents. Contracts see a list of values for

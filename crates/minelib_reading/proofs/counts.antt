@@ -1,4 +1,4 @@
 pub mod CountedFacts
-pub mod LaterLines
 pub mod FedAnswers
+pub mod LaterLines
 pub mod MarkFacts

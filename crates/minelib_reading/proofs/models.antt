@@ -1,4 +1,3 @@
-pub mod Drafts
 pub mod LineCases
 pub mod ModelFacts
 pub mod ModelSteps

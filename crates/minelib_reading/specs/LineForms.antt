@@ -35,13 +35,13 @@ block_form before = do
   End (if not (id == before) then Err Order else Ok (block_with x y z (tonnes / 1000) grade zone))
 
 -- the number is in the list
-abbrev pub stands_in : List ℕ → ℕ → Bool
-stands_in ids id = list_any (λ other. other == id) ids
+abbrev pub has_id : List ℕ → ℕ → Bool
+has_id ids id = list_any (λ other. other == id) ids
 
 -- no number appears twice
 abbrev pub all_differ : List ℕ → Bool
 all_differ [] = true
-all_differ (id ∷ ids) = not (stands_in ids id) && all_differ ids
+all_differ (id ∷ ids) = not (has_id ids id) && all_differ ids
 
 -- `id k p1 .. pk` for the block `own`, one of n: the k predecessors, all distinct and other than the block; a k of n or more is out
 -- of range
@@ -49,7 +49,7 @@ abbrev pub preds_with : (own id k : ℕ) → List ℕ → Result (List ℕ) Text
 preds_with own id k ids =
     if not (id == own) then Err Order else (
     if not (k == length ids) then Err Count else (
-    if stands_in ids own || not (all_differ ids) then Err Twice else Ok ids))
+    if has_id ids own || not (all_differ ids) then Err Twice else Ok ids))
 
 abbrev pub preds_form : (n own : ℕ) → Form (List ℕ)
 preds_form n own = do

@@ -66,8 +66,8 @@ is_ready d Coefs = true
 is_ready d Limits = true
 
 -- no required part of the file is missing
-abbrev pub is_whole : ModelDraftView → Bool
-is_whole d = is_complete d.header && (length d.values == d.blocks) && is_limits d.section
+abbrev pub has_all_parts : ModelDraftView → Bool
+has_all_parts d = is_complete d.header && (length d.values == d.blocks) && is_limits d.section
 
 -- the NAME after a header key with this value
 abbrev pub name_with : HeaderKey → List ℕ → List ℕ → List ℕ

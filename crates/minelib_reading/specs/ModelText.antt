@@ -14,7 +14,7 @@ use Rattle.minelib_lines.specs.declared.problem.Problem.TheVariants.{Pcpsp, Cpit
 use Rattle.minelib_reading.specs.HeaderNumbers.{count_in, is_given, with_key}
 use Rattle.minelib_reading.specs.LineFields.{item_in}
 use Rattle.minelib_reading.specs.LineForms.{coef_form, limit_form, values_form}
-use Rattle.minelib_reading.specs.ModelDraft.{ModelDraftView, blank_model, is_after, is_heading, is_next, is_ready, is_whole, last_of, name_with}
+use Rattle.minelib_reading.specs.ModelDraft.{ModelDraftView, blank_model, is_after, is_heading, is_next, is_ready, has_all_parts, last_of, name_with}
 use Rattle.minelib_reading.specs.ModelKeys.{is_colon, key_of, number_stated}
 use Rattle.minelib_reading.specs.declared.model.key.ModelKey.{ModelKey}
 use Rattle.minelib_reading.specs.declared.model.key.ModelKey.TheVariants as model_key
@@ -94,7 +94,7 @@ line_stated d line =
 
 -- the file after all lines are read
 abbrev pub finish_model : ℕ → ModelDraftView → Result ModelDraftView LineFault
-finish_model end d = if is_whole d then Ok d else Err (record { line = end; kind = Missing })
+finish_model end d = if has_all_parts d then Ok d else Err (record { line = end; kind = Missing })
 
 -- what the model file of a problem states for n blocks, or its first invalid line
 abbrev pub model_in : Problem → ℕ → List ℕ → Result ModelDraftView LineFault

@@ -67,6 +67,7 @@ impl<B: TakeBlocks + Drop> BlockDraft<B> {
 }
 
 // Returns the block of a line after `before` other blocks.
+#[tactic(auto, using(crate::proofs::counts::LaterLines::block_counted, crate::proofs::counts::LaterLines::block_kind))]
 fn block_in_line(line: &[u8], before: usize) -> Result<Block, TextKind>
     ensures value { result ≡ block_stated before (fields_of line.now) }
     ensures few { OnOk result (before < MAX_BLOCKS) }

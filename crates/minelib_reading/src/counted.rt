@@ -1,11 +1,11 @@
-//! The items of a block file and a model file, counted. Contracts see all items.
+//! The items of a block file, a precedence file and a model file, counted. Contracts see all items.
 
-ghost use Rattle.std.specs.Prelude.{◌≡◌, ◌<◌, ◌≤◌, [], length};
+ghost use Rattle.std.specs.Prelude.{◌≡◌, ◌*◌, ◌<◌, ◌≤◌, [], length, sum_by};
 ghost use Rattle.minelib_reading.specs.ModelDraft.{last_of};
-ghost use Rattle.minelib_reading.specs.inner.CountedItems.{last_d, last_r, most_up_to, values_in_rows};
+ghost use Rattle.minelib_reading.specs.inner.CountedItems.{last_d, last_r, lists_in, most_up_to};
 ghost use Rattle.plan_parts.specs.declared.ranges.TheConstants.{MAX_BLOCKS};
 
-use crate::taking::{TakeBlocks, TakeItems};
+use crate::taking::{TakeBlocks, TakeItems, TakePreds};
 use mine_instance::coefs::coef::Coef;
 use pit_units::Dec;
 use plan_parts::block::Block;
@@ -48,6 +48,53 @@ impl CountedBlocks {
     }
 }
 
+/// Lists of predecessors of which only the number and the number of their identifiers are stored.
+#[derive(Drop)]
+pub struct CountedPreds {
+    blocks: usize,
+    arcs: usize,
+    past: Past<Vec<u32>>,
+
+    ghost blocks_are: { blocks ≡ length past },
+    ghost arcs_are: { arcs ≡ sum_by length (lists_in past) },
+    ghost few: { blocks ≤ MAX_BLOCKS },
+    ghost low: { arcs ≤ blocks * MAX_BLOCKS },
+}
+
+impl TakePreds for CountedPreds {
+    ghost lists = { λ counted. lists_in counted.past };
+
+    #[tactic(auto, using(crate::proofs::counts::CountedFacts::rows_counted))]
+    fn count(&self) -> usize {
+        self.blocks
+    }
+
+    fn arcs(&self) -> usize {
+        self.arcs
+    }
+
+    #[tactic(auto, using(crate::proofs::counts::CountedFacts::one_row_more, crate::proofs::counts::CountedFacts::rows_counted))]
+    fn take(&mut self, list: &Vec<u32>) -> Result<(), AllocError> {
+        self.blocks += 1;
+        self.arcs += list.len();
+        self.past = self.past.with(list);
+        Ok(())
+    }
+}
+
+impl CountedPreds {
+    /// Makes a counter without lists.
+    pub fn new() -> CountedPreds
+        ensures { result.past ≡ [] }
+    {
+        CountedPreds {
+            blocks: 0,
+            arcs: 0,
+            past: Past::new(),
+        }
+    }
+}
+
 /// Values and coefficients of which only the numbers and the last coefficient are stored.
 #[derive(Drop)]
 pub struct CountedItems {
@@ -67,7 +114,7 @@ pub struct CountedItems {
 }
 
 impl TakeItems for CountedItems {
-    ghost values = { λ items. values_in_rows items.past_rows };
+    ghost values = { λ items. lists_in items.past_rows };
 
     ghost coefs = { λ items. items.past_coefs };
 

@@ -7,15 +7,14 @@ ghost use Rattle.minelib_reading.specs.FedCounts.{IsFedAnswer, arcs_counted, blo
 ghost use Rattle.plan_parts.specs.declared.ranges.TheConstants.{MAX_BLOCKS};
 
 use crate::block_reader::BlockDraft;
-use crate::counted::{CountedBlocks, CountedItems};
+use crate::counted::{CountedBlocks, CountedItems, CountedPreds};
 use crate::model::draft::ModelDraft;
 use crate::prec_reader::PrecDraft;
-use crate::taking::TakeBlocks;
+use crate::taking::{TakeBlocks, TakePreds};
 use devices::feeds::feed::Feed;
 use devices::feeds::slurp::SlurpFault;
 use minelib_lines::problem::Problem;
 use pit_units::OrMemory;
-use precedence::{CountedPreds, TakePreds};
 use std::alloc::Global;
 use text_lines::fed_lines::{FedResult, read_fed};
 

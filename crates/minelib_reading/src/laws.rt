@@ -11,12 +11,12 @@ ghost use Rattle.minelib_reading.specs.ModelDraft.{ModelDraftView};
 ghost use Rattle.minelib_reading.specs.ModelText.{key_stated, model_in};
 ghost use Rattle.minelib_reading.specs.PrecText.{preds_in, preds_stated, with_preds};
 ghost use Rattle.minelib_reading.specs.StatedModel.{StatedModel, stated_by};
-ghost use Rattle.minelib_reading.specs.encoded.LineKinds.{HasFields, IsOfAnother, IsOutOfTurn, LacksBefore, Miscounts, PredsFail, Repeats, SectionFails};
+ghost use Rattle.minelib_reading.specs.encoded.LineKinds.{HasFields, IsOfAnother, IsOutOfTurn, MissesRequired, Miscounts, PredsFail, Repeats, SectionFails};
 ghost use Rattle.minelib_reading.specs.encoded.EncodedAdditions.{AddsWhatItEncodes, ReadsKey, StatesKey};
 ghost use Rattle.minelib_reading.specs.encoded.EncodedItems.{EncodesBlock, EncodesPreds};
 ghost use Rattle.minelib_reading.specs.encoded.EncodedLines.{IsFirstInvalidLine};
 ghost use Rattle.minelib_reading.specs.encoded.EncodedModel.{AreModelLines};
-ghost use Rattle.minelib_reading.specs.encoded.EncodedTexts.{EncodeBlocks, EncodeCpit, EncodeInstance, EncodePreds, EncodesBlockLine, EncodesPredsLine, LacksLines};
+ghost use Rattle.minelib_reading.specs.encoded.EncodedTexts.{EncodeBlocks, EncodeCpit, EncodeInstance, EncodePreds, EncodesBlockLine, EncodesPredsLine, MissesLines};
 ghost use Rattle.minelib_reading.specs.declared.model.key.Section.TheVariants.{Coefs, Limits, Objective};
 ghost use Rattle.minelib_lines.specs.declared.header_key.HeaderKey.{HeaderKey};
 ghost use Rattle.minelib_lines.specs.declared.problem.Problem.{Problem};
@@ -78,6 +78,7 @@ pub fn prec_lines_are_encoded()
 /// key, in any order. Then come the sections: a line with only the section's key, and after it a line for each block's values, each
 /// coefficient or each limit, in order. The value of a header key and the fields of a section's line encode the numbers of their
 /// part.
+#[tactic(auto, using(crate::proofs::encoded::EncodedDenotes::model_encoded))]
 pub fn model_lines_are_encoded()
     ensures { (problem : Problem) (n : ℕ) (text : List ℕ) (d : ModelDraftView)
         → model_in problem n text ≡ Ok d
@@ -86,6 +87,7 @@ pub fn model_lines_are_encoded()
 
 /// Lines that encode the content of a model file are read as this content. The header keys may be in any order, and numbers in any
 /// encoding.
+#[tactic(auto, using(crate::proofs::encoded::EncodedDenotes::model_back))]
 pub fn encoded_models_are_read()
     ensures { (problem : Problem) (n : ℕ) (text : List ℕ) (m : StatedModel)
         → AreModelLines problem n (lines_in text) m
@@ -131,7 +133,7 @@ pub fn invalid_lines_encode_no_preds()
     ensures { (n : ℕ) (text : List ℕ) (fault : LineFault) → preds_in n text ≡ Err fault
         → (IsFirstFault (with_preds n) [] (lines_in text) fault
         × IsFirstInvalidLine (EncodesPredsLine n) (lines_in text) fault.line)
-        ⊎ LacksLines n text fault }
+        ⊎ MissesLines n text fault }
 {}
 
 /// The kind of a fault is the kind of the first requirement that a line violates.
@@ -146,5 +148,5 @@ pub fn invalid_lines_have_their_kind()
     ensures twice { PredsFail Twice Repeats }
     ensures key { SectionFails Key IsOutOfTurn }
     ensures fields { SectionFails Fields HasFields }
-    ensures missing { SectionFails Missing LacksBefore }
+    ensures missing { SectionFails Missing MissesRequired }
 {}

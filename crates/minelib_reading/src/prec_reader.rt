@@ -5,7 +5,7 @@ ghost use Rattle.text_lines.specs.FieldValues.{all_by};
 ghost use Rattle.text_lines.specs.StatedFields.{below_in};
 ghost use Rattle.minelib_reading.specs.inner.LinesTaken.{admit_preds, no_lists};
 ghost use Rattle.minelib_reading.specs.LineFields.{item_in};
-ghost use Rattle.minelib_reading.specs.LineForms.{all_differ, preds_form, stands_in};
+ghost use Rattle.minelib_reading.specs.LineForms.{all_differ, preds_form, has_id};
 ghost use Rattle.minelib_reading.specs.PrecText.{finish_preds, preds_in, preds_stated};
 ghost use Rattle.pit_units.specs.OrMemory.{Gives};
 ghost use Rattle.text_lines.specs.Reading.{Leaves};
@@ -13,8 +13,9 @@ ghost use Rattle.text_lines.specs.TextLines.{fields_of};
 ghost use Rattle.plan_parts.specs.declared.ranges.TheConstants.{MAX_BLOCKS};
 
 use crate::marks::{Marks, rise_above};
+use crate::taking::TakePreds;
 use pit_units::OrMemory;
-use precedence::{Preds, TakePreds};
+use precedence::Preds;
 use std::alloc::{AllocError, Global};
 use std::marker::Model;
 use text_lines::line_by_line::{Admit, read_lines};
@@ -101,13 +102,13 @@ fn uncounted_preds(
 fn are_others(ids: &[u32], own: u32, marks: &mut Marks) -> Result<bool, AllocError>
     requires { All (λ id. id < marks.old) ids.now }
     ensures value { IfOk result
-        (λ others. others ≡ (not (stands_in ids.now own) && all_differ ids.now)) }
+        (λ others. others ≡ (not (has_id ids.now own) && all_differ ids.now)) }
     ensures kept { marks.new ≡ marks.old }
 {
     if rise_above(own, ids) {
         return Ok(true);
     }
-    if stands_in(ids, own) {
+    if has_id(ids, own) {
         return Ok(false);
     }
     marks.all_differ(ids)
@@ -129,8 +130,8 @@ fn read_ids(line: &[u8], blocks: usize, ids: &mut Vec<u32>) -> Result<(), OrMemo
     Ok(())
 }
 
-fn stands_in(ids: &[u32], id: u32) -> bool
-    ensures { result ≡ stands_in ids.now id }
+fn has_id(ids: &[u32], id: u32) -> bool
+    ensures { result ≡ has_id ids.now id }
 {
     ids.iter().any(|other| *other == id)
 }

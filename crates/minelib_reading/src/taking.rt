@@ -1,6 +1,6 @@
-//! Receivers of the items of a block file and a model file, which store or count them.
+//! Receivers of the items of a block file, a precedence file and a model file, which store or count them.
 
-ghost use Rattle.std.specs.Prelude.{◌≡◌, ◌<◌, ◌++◌, [], ◌∷◌, ℤ, List, All, OnOk, OnErr, length, true};
+ghost use Rattle.std.specs.Prelude.{◌≡◌, ◌<◌, ◌≤◌, ◌++◌, [], ◌∷◌, ℕ, ℤ, List, All, OnOk, OnErr, length, sum_by, true};
 ghost use Rattle.mine_instance.specs.Order.{coef_before};
 ghost use Rattle.mine_instance.specs.declared.coefs.coef.Coef.{Coef as ACoef};
 ghost use Rattle.minelib_reading.specs.ModelDraft.{is_after, last_of};
@@ -24,6 +24,25 @@ pub trait TakeBlocks {
     fn take(&mut self, block: Block) -> Result<(), AllocError>
         requires { length (blocks self.old) < MAX_BLOCKS }
         ensures { OnOk result (blocks self.new ≡ blocks self.old ++ block ∷ []) };
+}
+
+/// A receiver of lists of predecessors, block after block.
+pub trait TakePreds {
+    ghost lists: { Self → List (List ℕ) };
+
+    /// Returns the number of lists.
+    fn count(&self) -> usize
+        ensures { result ≡ length (lists self.now) };
+
+    /// Returns the number of identifiers in all lists.
+    fn arcs(&self) -> usize
+        ensures { result ≡ sum_by length (lists self.now) };
+
+    /// Adds the list of the next block. If memory is refused, the lists are invalid.
+    fn take(&mut self, list: &Vec<u32>) -> Result<(), AllocError>
+        requires few { length (lists self.old) < MAX_BLOCKS }
+        requires short { length list.now.items ≤ MAX_BLOCKS }
+        ensures { OnOk result (lists self.new ≡ lists self.old ++ list.now.items ∷ []) };
 }
 
 /// A receiver of values, block after block, and of coefficients, one after the other.

@@ -21,11 +21,10 @@ use Rattle.minelib_lines.specs.declared.problem.Problem.{Problem}
 use Rattle.minelib_writing.specs.Written.{value_line}
 use Rattle.minelib_reading.proofs.keys.HeaderFacts.{KeepsOwn, all_given, contains_cases, each_key, each_with, first_given}
 use Rattle.minelib_reading.proofs.keys.KeyNumbers.{reported}
-use Rattle.minelib_reading.proofs.models.Drafts.{heading}
-use Rattle.minelib_reading.proofs.encoded.EncodedModelBack.{key_states, section_states, values_states}
+use Rattle.minelib_reading.proofs.encoded.EncodedModelBack.{heading, key_states, section_states, values_states}
 use Rattle.minelib_reading.proofs.encoded.EncodedModelRead.{At, Now}
 use Rattle.minelib_reading.specs.HeaderNumbers.{count_in, is_complete, is_given, with_key}
-use Rattle.minelib_reading.specs.ModelDraft.{ModelDraftView, blank_header, is_next, is_ready, is_whole, name_with}
+use Rattle.minelib_reading.specs.ModelDraft.{ModelDraftView, blank_header, is_next, is_ready, has_all_parts, name_with}
 use Rattle.minelib_reading.specs.ModelKeys.{section_text}
 use Rattle.minelib_reading.specs.ModelText.{line_stated}
 use Rattle.minelib_reading.specs.declared.model.key.Header.{Header}
@@ -39,7 +38,7 @@ pub record Completes (d : ModelDraftView) : Type 0 where
   pub rest : List Line
   pub last : ModelDraftView
   pub states : read_lines line_stated d rest ≡ Ok last
-  pub whole : is_whole last ≡ true
+  pub whole : has_all_parts last ≡ true
 
 then_complete : (s t : ModelDraftView) (line : List ℕ) → line_stated s line ≡ Ok t → Completes t → Completes s
 then_complete s t line states c = record {

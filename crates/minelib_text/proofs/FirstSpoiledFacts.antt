@@ -11,7 +11,7 @@ use Rattle.minelib_lines.specs.declared.problem.Problem.{Problem}
 use Rattle.minelib_reading.proofs.encoded.EncodedModelBack.{encoded_stated}
 use Rattle.minelib_reading.proofs.encoded.EncodedModelRead.{lines_now, stated_encoded}
 use Rattle.minelib_reading.proofs.encoded.EncodedRead.{ended_fails}
-use Rattle.minelib_reading.specs.ModelDraft.{ModelDraftView, blank_model, is_whole}
+use Rattle.minelib_reading.specs.ModelDraft.{ModelDraftView, blank_model, has_all_parts}
 use Rattle.minelib_reading.specs.ModelText.{line_stated, model_in}
 use Rattle.minelib_reading.specs.StatedModel.{stated_by}
 use Rattle.minelib_reading.specs.encoded.EncodedModel.{BeginModel, EndsEarly, IsFirstSpoiled}
@@ -43,7 +43,7 @@ pub bad_model : (problem : Problem) (n : ℕ) (text : List ℕ) (fault : LineFau
     → (IsFirstFault line_stated (blank_model problem n) (lines_in text) fault × IsFirstSpoiled problem n (lines_in text) fault.line)
     ⊎ EndsEarly problem n text fault
 bad_model problem n text fault few e =
-    elim (ended_fails line_stated (blank_model problem n) (lines_in text) is_whole _ fault e) [
+    elim (ended_fails line_stated (blank_model problem n) (lines_in text) has_all_parts _ fault e) [
       | inl stop ↦ inl (
         stop,
         record {
@@ -63,6 +63,6 @@ bad_model problem n text fault few e =
         no_model = λ m are.
             let stated = encoded_stated problem n (lines_in text) m are in
             let same : stated.0 ≡ h.0 = same_ok {F = LineFault} stated.0 h.0 (sym stated.1.0 ∙ h.1) in
-            absurd (let lacks_too : is_whole stated.0 ≡ false = ap (λ d. is_whole d) same ∙ h.2 in cc (stated.1.1, lacks_too));
+            absurd (let lacks_too : has_all_parts stated.0 ≡ false = ap (λ d. has_all_parts d) same ∙ h.2 in cc (stated.1.1, lacks_too));
       })
     ]

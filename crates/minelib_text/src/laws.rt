@@ -28,6 +28,7 @@ ghost use Rattle.plan_parts.specs.declared.ranges.TheConstants.{MAX_BLOCKS};
 
 /// The texts of a valid instance denote that instance. That it has a NAME and decimals (`IsWellFormed`), `build` and `read_instance` say of
 /// what they answer, and `write_pcpsp` of every instance that it wrote.
+#[tactic(auto, using(crate::proofs::TextsBack::written_again))]
 pub fn written_is_read()
     ensures { (i : AnInstance) → IsValid i → IsWellFormed i
         → Denotes (text_blocks i) (text_prec i) (text_pcpsp i) i }
@@ -36,6 +37,7 @@ pub fn written_is_read()
 /// The text of a CPIT denotes that CPIT. That its parts are in their ranges and orders (`IsCpit`), with a NAME and decimals
 /// (`IsWellFormedCpit`), `write_cpit` says of every CPIT that it wrote; the latter `read_cpit` says of what it answers, and `build_cpit`
 /// where the instance has them.
+#[tactic(auto, using(crate::proofs::TextsBack::written_cpit_again))]
 pub fn written_cpit_is_read()
     ensures { (c : CpitParts) → IsCpit c → IsWellFormedCpit c
         → DenotesCpit (length c.values) (text_cpit c) c }

@@ -4,14 +4,14 @@ use Rattle.std.specs.Prelude.{HoldsAt}
 use Rattle.std.proofs.lemmas.List.{get_or_default}
 use Rattle.minelib_lines.specs.Lines.{line_of, lines_from}
 use Rattle.minelib_writing.proofs.KeptFacts.{holds_one, kept_at}
-use Rattle.minelib_writing.proofs.LineFacts.{length-line_parts, line_part}
+use Rattle.minelib_writing.proofs.LineFacts.{line_parts_count, line_part}
 use Rattle.minelib_writing.specs.inner.KeptParts.{HoldsFrom}
 use Rattle.minelib_writing.specs.inner.Parts.{line_parts, text_from}
 
 module _ (fields : ℕ → List ℤ → List (List ℕ)) (values : List (List ℤ)) (index : ℕ) (own : List ℤ)
     (part : index < length (line_parts (lines_from fields 0 values))) (is : own ≡ get_or values index []) where
   pub block_within : index < length values
-  block_within = rw length-line_parts at part
+  block_within = rw line_parts_count at part
 
   stands : own ≡ get_or values index own
   stands = is ∙ get_or_default values index [] own block_within

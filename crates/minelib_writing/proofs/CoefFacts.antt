@@ -3,7 +3,7 @@ use Rattle.std.proofs.Common.{◌≡◌, ℕ, suc, ◌+◌, ◌-◌, ◌<◌, �
 use Rattle.std.proofs.Math.Seq.{drop-drop, drop-append_seam, take-add, take-suc}
 use Rattle.std.proofs.lemmas.Bool.{cases_Bool, eqb-true}
 use Rattle.std.proofs.lemmas.Bool.Decides.{nat_tests}
-use Rattle.std.proofs.lemmas.List.{drop-take, flat_map_more, get_or-drop, get_or-map, get_or-take, length-map, length-take, length-drop}
+use Rattle.std.proofs.lemmas.List.{drop-take, flat_map_more, get_or-drop, get_or-map, get_or-take, length-map, length-take, length-drop, take_all}
 use Rattle.std.proofs.lemmas.List.Concat.{concat_is}
 use Rattle.std.proofs.lemmas.List.Elements.{All-map}
 use Rattle.std.proofs.lemmas.List.Folds.{concat-append, flat_map-map}
@@ -59,6 +59,13 @@ next_line f out now new line xs i x within read so_far more is_line =
     more ∙ ap (λ ys. ys ++ line) so_far ∙ ap (λ ys. (out ++ flat_map f (take i xs)) ++ ys) is_line ∙ flat_map_more f out (take i xs) x
     ∙ ap (λ ys. out ++ flat_map f ys) (ap (λ y. take i xs ++ y ∷ []) read ∙ sym (take-suc xs i x within)
     ∙ ap (λ n. take n xs) one)
+
+-- the lines of all pairs are the lines of the group's coefficients
+pub all_lines : (text : Coef → List ℕ) (b : ℕ) (v : ℤ) (out now : List ℕ) (pairs all : List (ℕ × ℕ)) (i : ℕ) → pairs ≡ all
+    → length pairs ≤ i → now ≡ out ++ flat_map (λ pair. text (coef_of b v pair)) (take i pairs) → now ≡ out ++ flat_map text (map (coef_of b v) all)
+all_lines text b v out now pairs all i is ended so_far =
+    so_far ∙ ap (λ ps. out ++ flat_map (λ pair. text (coef_of b v pair)) ps) (take_all i pairs ended ∙ is)
+    ∙ ap (λ lines. out ++ lines) (sym (flat_map-map text (coef_of b v) all))
 
 -- a property of all coefficients of a group holds for a pair's coefficient
 pub of_pair : (P : Coef → Type 0) (b : ℕ) (v : ℤ) (pairs all : List (ℕ × ℕ)) (i : ℕ) → pairs ≡ all → i < length pairs

@@ -1,8 +1,7 @@
 -- The facts about the parts of a list, position by position.
-use Rattle.std.proofs.Common.{◌≡◌, ℕ, ◌+◌, ◌-◌, ◌<◌, ◌≤◌, List, All, length, take, drop, get_or, ◌⊎◌, arith, subst, sym, ap, ◌∙◌, inl, inr}
+use Rattle.std.proofs.Common.{◌≡◌, ℕ, ◌+◌, ◌-◌, ◌<◌, ◌≤◌, List, All, length, take, drop, get_or, ◌⊎◌, arith, subst, ap, ◌∙◌, inl, inr}
 use Rattle.std.specs.Prelude.{HoldsAt, OnOk, Result, Ok, Err}
-use Rattle.std.proofs.lemmas.List.{take_all, get_or_default, get_or-take, get_or-drop, length-take, length-drop}
-use Rattle.std.proofs.lemmas.List.Elements.{All-same}
+use Rattle.std.proofs.lemmas.List.{get_or_default, get_or-take, get_or-drop, length-take, length-drop}
 use Rattle.std.proofs.lemmas.Bool.{cases_lt}
 use Rattle.minelib_writing.specs.inner.KeptParts.{HoldsFrom}
 pub use Rattle.std.proofs.lemmas.List.Elements.{All-more}
@@ -35,10 +34,6 @@ module _ {X : Type 0} (P : X → Type 0) where
   -- about all positions, and so about all items
   pub kept_all : (xs : List X) (n : ℕ) → n ≡ length xs → HoldsFrom (HoldsAt P xs) 0 n → All P xs
   kept_all xs n long each k d within = each k (omega arith) (omega arith) d
-
-  -- about the first i items, if there are no more
-  pub all_seen : (xs : List X) (i : ℕ) → length xs ≤ i → All P (take i xs) → All P xs
-  all_seen xs i past before = All-same P xs (take i xs) (sym (take_all i xs past)) before
 
 -- three facts about an `Ok` are one
 pub on_ok_three : {T E A B C D : Type 0} (r : Result T E) → (A → B → C → D) → OnOk r A → OnOk r B → OnOk r C → OnOk r D

@@ -1,12 +1,12 @@
 pub mod BestFacts
+pub mod BlockLines
 pub mod ByKeys
 pub mod ChosenFacts
 pub mod CoefFacts
-pub mod PrefixGroup
 pub mod KeptFacts
 pub mod LineFacts
-pub mod BlockLines
 pub mod PartsWritten
-pub mod RunCounts
+pub mod PrefixGroup
+pub mod RangeCounts
 pub mod SectionsWritten
 pub mod SpacedFacts

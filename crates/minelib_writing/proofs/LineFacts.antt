@@ -35,15 +35,16 @@ pub part_at : (parts : List (List ℕ)) (i : ℕ) → i < length parts → conca
 part_at parts i h = ap (λ rest. concat (take 1 rest)) (drop-cons parts i [] h) ∙ append-nil (get_or parts i [])
 
 -- a part for each item
-pub length-line_parts : {A : Type 0} (fields : ℕ → A → List (List ℕ)) (xs : List A) → length (line_parts (lines_from fields 0 xs)) ≡ length xs
-length-line_parts fields xs = length-map (lines_from fields 0 xs) (λ line. line ++ 10 ∷ []) ∙ length-lines_from fields 0 xs
+pub line_parts_count : {A : Type 0} (fields : ℕ → A → List (List ℕ)) (xs : List A)
+    → length (line_parts (lines_from fields 0 xs)) ≡ length xs
+line_parts_count fields xs = length-map (lines_from fields 0 xs) (λ line. line ++ 10 ∷ []) ∙ length-lines_from fields 0 xs
 
 -- the part of the item at a position
 pub line_part : {A : Type 0} (fields : ℕ → A → List (List ℕ)) (i : ℕ) (xs : List A) (x : A) → i < length xs → x ≡ get_or xs i x
     → concat (take 1 (drop i (line_parts (lines_from fields 0 xs)))) ≡ line_of (fields i x) ++ 10 ∷ []
 line_part fields i xs x h e =
     let lines = lines_from fields 0 xs in
-    part_at (line_parts lines) i (omega (arith, h, length-line_parts fields xs))
+    part_at (line_parts lines) i (omega (arith, h, line_parts_count fields xs))
     ∙ get_or-map (λ line. line ++ 10 ∷ []) lines i [] [] (omega (arith, h, length-lines_from fields 0 xs))
     ∙ ap (λ line. line ++ 10 ∷ []) (line_at fields i xs x h e)
 

@@ -3,7 +3,7 @@ use Rattle.std.proofs.Common.{◌≡◌, ℕ, zero, suc, ◌+◌, ◌*◌, ◌^�
 use Rattle.std.specs.Prelude.{decimal}
 use Rattle.std.specs.List.{range_with_len}
 use Rattle.std.proofs.Math.Seq.{drop-append_seam, get_or-append_seam, take-append_seam}
-use Rattle.std.proofs.lemmas.List.{drop-drop, drop-take, get_or_append_left, get_or_default}
+use Rattle.std.proofs.lemmas.List.{get_or_append_left, get_or_default}
 use Rattle.std.proofs.lemmas.Bool.{cases_lt}
 use Rattle.std.proofs.lemmas.Fmt.{length-decimal-le_wide}
 use Rattle.std.proofs.lemmas.Grind.{flat_map-append}
@@ -71,16 +71,16 @@ middle a b c =
     ap (take (length (a ++ b) - length a)) (drop-append_seam a (b ++ c)) ∙ ap (λ k. take k (b ++ c)) long ∙ take-append_seam b c
 
 -- the identifiers before the end of a range are those before its start, and the range
-run_after : (first past : ℕ) → first ≤ past
+range_after : (first past : ℕ) → first ≤ past
     → spaced (range_with_len 0 past) ≡ spaced (range_with_len 0 first) ++ spaced (range_with_len first (past - first))
-run_after first past le =
+range_after first past le =
     ap spaced (below_parts first past le) ∙ spaced-append (range_with_len 0 first) (range_with_len first (past - first))
 
 pub starts_rise : (first past : ℕ) → first ≤ past → start_in first ≤ start_in past
 starts_rise first past le =
     let a = spaced (range_with_len 0 first) in
     let b = spaced (range_with_len first (past - first)) in
-    omega (arith, ap length (run_after first past le), length-append a b)
+    omega (arith, ap length (range_after first past le), length-append a b)
 
 pub part_of_text : (n first past : ℕ) → first ≤ past → past ≤ n
     → take (start_in past - start_in first) (drop (start_in first) (spaced (range_with_len 0 n)))
@@ -89,49 +89,32 @@ part_of_text n first past le within =
     let a = spaced (range_with_len 0 first) in
     let b = spaced (range_with_len first (past - first)) in
     let c = spaced (range_with_len past (n - past)) in
-    let to_past : spaced (range_with_len 0 past) ≡ a ++ b = run_after first past le in
-    let whole : spaced (range_with_len 0 n) ≡ a ++ (b ++ c) = run_after past n within ∙ ap (λ t. t ++ c) to_past ∙ append_assoc a b c in
+    let to_past : spaced (range_with_len 0 past) ≡ a ++ b = range_after first past le in
+    let whole : spaced (range_with_len 0 n) ≡ a ++ (b ++ c) = range_after past n within ∙ ap (λ t. t ++ c) to_past ∙ append_assoc a b c in
     ap (λ t. take (start_in past - start_in first) (drop (start_in first) t)) whole
     ∙ ap (λ t. take (length t - length a) (drop (length a) (a ++ (b ++ c)))) to_past
     ∙ middle a b c
 
 -- the starts give the text of a range
-pub run_within : (starts text : List ℕ) (n first past a b : ℕ) → AreStarts starts → text ≡ spaced (range_with_len 0 n) → n < length starts
+pub range_within : (starts text : List ℕ) (n first past a b : ℕ) → AreStarts starts → text ≡ spaced (range_with_len 0 n) → n < length starts
     → first ≤ past → past ≤ n → a ≡ get_or starts first a → b ≡ get_or starts past b → (a ≤ b) × (b ≤ length text)
-run_within starts text n first past a b are is long le most low high =
+range_within starts text n first past a b are is long le most low high =
     let at_first = get_or_default starts first a 0 (omega arith) in
     let at_past = get_or_default starts past b 0 (omega arith) in
     let rises = starts_rise first past le in
     let inside = starts_rise past n most in
     (omega (arith, are first (omega arith), are past (omega arith)), omega (arith, are past (omega arith), ap length is))
 
-pub run_is : (starts text : List ℕ) (n first past a b : ℕ) → AreStarts starts → text ≡ spaced (range_with_len 0 n) → n < length starts
+pub range_is : (starts text : List ℕ) (n first past a b : ℕ) → AreStarts starts → text ≡ spaced (range_with_len 0 n) → n < length starts
     → first ≤ past → past ≤ n → a ≡ get_or starts first a → b ≡ get_or starts past b
     → take (b - a) (drop a text) ≡ spaced (range_with_len first (past - first))
-run_is starts text n first past a b are is long le most low high =
+range_is starts text n first past a b are is long le most low high =
     let at_first : a ≡ start_in first = low ∙ get_or_default starts first a 0 (omega arith) ∙ are first (omega arith) in
     let at_past : b ≡ start_in past = high ∙ get_or_default starts past b 0 (omega arith) ∙ are past (omega arith) in
     (λ j. take (at_past j - at_first j) (drop (at_first j) (is j))) ∙ part_of_text n first past le most
 
--- without the space before it, the text of one identifier is its digits
-pub digits_within : (starts text : List ℕ) (n id a b : ℕ) → AreStarts starts → text ≡ spaced (range_with_len 0 n) → n < length starts
-    → id < n → a ≡ get_or starts id a → b ≡ get_or starts (id + 1) b → (a + 1 ≤ b) × (b ≤ length text)
-digits_within starts text n id a b are is long lt low high =
-    let at_id : a ≡ start_in id = low ∙ get_or_default starts id a 0 (omega arith) ∙ are id (omega arith) in
-    let at_next : b ≡ start_in (id + 1) = high ∙ get_or_default starts (id + 1) b 0 (omega arith) ∙ are (id + 1) (omega arith) in
-    let more = length-append (spaced (range_with_len 0 id)) (32 ∷ decimal id) in
-    let inside = run_within starts text n id (id + 1) a b are is long (omega arith) (omega arith) low high in
-    (omega (arith, at_id, at_next, ap length (spaced_below id), more), inside.1)
-
-pub digits_are : (starts text : List ℕ) (n id a b : ℕ) → AreStarts starts → text ≡ spaced (range_with_len 0 n) → n < length starts
-    → id < n → a ≡ get_or starts id a → b ≡ get_or starts (id + 1) b
-    → take (b - (a + 1)) (drop (a + 1) text) ≡ decimal id
-digits_are starts text n id a b are is long lt low high =
+-- the text of one identifier
+pub one_text : (id : ℕ) → spaced (range_with_len id ((id + 1) - id)) ≡ 32 ∷ decimal id
+one_text id =
     let one : (id + 1) - id ≡ 1 = omega arith in
-    let whole : take (b - a) (drop a text) ≡ 32 ∷ (decimal id ++ []) =
-    run_is starts text n id (id + 1) a b are is long (omega arith) (omega arith) low high ∙ ap (λ n. spaced (range_with_len id n)) one in
-    let long : 1 + (b - (a + 1)) ≡ b - a = omega (arith, (digits_within starts text n id a b are is long lt low high).0) in
-    ap (take (b - (a + 1))) (sym (drop-drop 1 a text))
-    ∙ sym (drop-take 1 (b - (a + 1)) (drop a text))
-    ∙ ap (λ n. drop 1 (take n (drop a text))) long
-    ∙ ap (drop 1) whole ∙ append-nil (decimal id)
+    ap (λ n. spaced (range_with_len id n)) one ∙ append-nil (32 ∷ decimal id)

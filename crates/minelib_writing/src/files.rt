@@ -15,12 +15,11 @@ ghost use Rattle.minelib_writing.specs.TextsKept.{kept_named};
 ghost use Rattle.minelib_writing.specs.Written.{section_lines, text_blocks, text_prec, text_upit, text_pcpsp, text_cpit};
 ghost use Rattle.minelib_writing.specs.inner.KeptParts.{HoldsFrom};
 
-use crate::id_text::IdText;
 use crate::keys::write_keys;
 use crate::lines::Lines;
 use crate::lines::coefs::{CoefForm, CoefLines};
-use crate::lines::preds::write_preds;
 use crate::lines::values::{LargestLines, ValueLines};
+use crate::lists_file::write_lists;
 use crate::parts::{Parted, write_parts, write_titled};
 use crate::sections::write_sections;
 use devices::sinks::sink::Sink;
@@ -73,32 +72,8 @@ pub fn write_blocks<P: PredLists, C: CoefList, V: ValueList, S: Sink>(
     write_text(alloc, &BlockFile { instance }, sink)
 }
 
-#[derive(Drop)]
-struct PrecFile<'a, P: PredLists, C: CoefList, V: ValueList> {
-    instance: &'a Instance<P, C, V>,
-    ghost valid: { IsValid instance.now },
-}
-
-impl<'a, P: PredLists, C: CoefList, V: ValueList> Text for PrecFile<'a, P, C, V> {
-    ghost text = { λ t. text_prec t.instance.now };
-
-    ghost kept = { λ t. ⊤ };
-
-    #[tactic(auto, using(crate::proofs::SectionsWritten::nothing_put), unfolding(crate::specs::Written::text_prec))]
-    fn write<S: Sink>(
-        &self,
-        alloc: Global,
-        sink: &mut S,
-        buffer: &mut Vec<u8>,
-    ) -> Result<(), WriteFault> {
-        let instance = self.instance;
-        let preds = &instance.preds;
-        let texts = IdText::below(alloc, preds.count())?;
-        write_preds(alloc, sink, buffer, preds, &texts)
-    }
-}
-
 /// Begins the sink and writes the precedence file: the predecessors of each block, by identifier.
+#[tactic(auto, unfolding(crate::specs::Written::text_prec))]
 pub fn write_prec<P: PredLists, C: CoefList, V: ValueList, S: Sink>(
     alloc: Global,
     instance: &Instance<P, C, V>,
@@ -107,7 +82,9 @@ pub fn write_prec<P: PredLists, C: CoefList, V: ValueList, S: Sink>(
     requires { IsValid instance.now }
     ensures { Writes (text_prec instance.now) (S.state sink.old) (S.state sink.new) result }
 {
-    write_text(alloc, &PrecFile { instance }, sink)
+    let mut preds = &instance.preds;
+    write_lists(alloc, &mut preds, sink)?;
+    Ok(())
 }
 
 #[derive(Drop)]

@@ -1,12 +1,13 @@
 //! The texts of identifiers, computed once for all lines.
 
 ghost use Rattle.std.specs.Prelude.{◌≡◌, ◌+◌, ◌-◌, ◌<◌, ◌≤◌, ◌++◌, All, IfOk, OnOk, decimal, length, take, drop};
-ghost use Rattle.precedence.specs.IdRuns.{ids_of, ids_of_run};
+ghost use Rattle.std.specs.List.{range_with_len};
+ghost use Rattle.precedence.specs.IdRanges.{ids_of, ids_of_range};
 ghost use Rattle.minelib_writing.specs.inner.Spaced.{spaced};
 ghost use Rattle.plan_parts.specs.declared.ranges.TheConstants.{MAX_BLOCKS};
 
 use crate::fields::append_field;
-use precedence::IdRun;
+use precedence::IdRange;
 use std::alloc::{AllocError, Global};
 use std::marker::Model;
 
@@ -48,37 +49,46 @@ impl IdText {
 
     /// Appends an identifier.
     #[inline(always)]
+    #[tactic(auto, using(crate::proofs::SpacedFacts::one_text))]
     pub fn append_one(&self, out: &mut Vec<u8>, id: u32) -> Result<(), AllocError>
         requires { id < self.now }
         ensures { OnOk result (out.new.items ≡ out.old.items ++ decimal id) }
     {
-        let index = id as usize;
-        let start = self.starts[index] as usize;
-        let end = self.starts[index + 1] as usize;
-        out.extend_from_slice(bytes_between(self.text.as_slice(), start + 1, end))
+        let first = id as usize;
+        out.extend_from_slice(&self.texts_between(first, first + 1)[1..])
     }
 
     /// Appends the identifiers of ranges, each after a space.
     #[inline(always)]
-    pub fn append(&self, out: &mut Vec<u8>, runs: &[IdRun]) -> Result<(), AllocError>
-        requires { All (λ id. id < self.now) (ids_of runs.now) }
-        ensures { OnOk result (out.new.items ≡ out.old.items ++ spaced (ids_of runs.now)) }
+    pub fn append(&self, out: &mut Vec<u8>, ranges: &[IdRange]) -> Result<(), AllocError>
+        requires { All (λ id. id < self.now) (ids_of ranges.now) }
+        ensures { OnOk result (out.new.items ≡ out.old.items ++ spaced (ids_of ranges.now)) }
     {
-        for run in runs {
-            self.append_run(out, *run)?;
+        for range in ranges {
+            self.append_range(out, *range)?;
         }
         Ok(())
     }
 
     #[inline(always)]
-    fn append_run(&self, out: &mut Vec<u8>, run: IdRun) -> Result<(), AllocError>
-        requires { run.first + run.len ≤ self.now }
-        ensures { OnOk result (out.new.items ≡ out.old.items ++ spaced (ids_of_run run)) }
+    fn append_range(&self, out: &mut Vec<u8>, range: IdRange) -> Result<(), AllocError>
+        requires { range.first + range.len ≤ self.now }
+        ensures { OnOk result (out.new.items ≡ out.old.items ++ spaced (ids_of_range range)) }
     {
-        let first = run.first as usize;
+        let first = range.first as usize;
+        out.extend_from_slice(self.texts_between(first, first + range.len as usize))
+    }
+
+    // Returns the identifiers from `first` on before `past`, each after a space.
+    #[inline(always)]
+    fn texts_between(&self, first: usize, past: usize) -> &[u8]
+        requires in_order { first ≤ past }
+        requires within { past ≤ self.now }
+        ensures { result.now ≡ spaced (range_with_len first (past - first)) }
+    {
         let start = self.starts[first] as usize;
-        let end = self.starts[first + run.len as usize] as usize;
-        out.extend_from_slice(bytes_between(self.text.as_slice(), start, end))
+        let end = self.starts[past] as usize;
+        bytes_between(self.text.as_slice(), start, end)
     }
 }
 

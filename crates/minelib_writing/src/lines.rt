@@ -49,10 +49,12 @@ impl<'a, T: Line> Parted for Lines<'a, T> {
 
     ghost whole = { λ s. lines_whole (lines_from T.fields 0 s.items.now) };
 
+    #[tactic(auto, using(crate::proofs::LineFacts::line_parts_count))]
     fn len(&self) -> usize {
         self.items.len()
     }
 
+    #[tactic(auto, using(crate::proofs::LineFacts::line_parts_count))]
     fn append(
         &self,
         index: usize,

@@ -11,7 +11,7 @@ use crate::lines::preds::{count_of, write_counted};
 use devices::sinks::sink::Sink;
 use devices::sinks::slices::{LARGE, flush};
 use devices::sinks::write_fault::WriteFault;
-use precedence::{IdRun, MadeLists, PredLists};
+use precedence::{IdRange, MadeLists, PredLists};
 use std::alloc::{AllocError, Global};
 
 /// Begins the sink and writes the precedence file of these lists, one for each block by identifier, each computed when its line is
@@ -44,21 +44,21 @@ pub fn count_arcs<P: PredLists>(alloc: Global, preds: &P) -> Result<u128, AllocE
     requires few { length (P.lists preds.now) ≤ MAX_BLOCKS }
     ensures { IfOk result (λ arcs. arcs ≡ sum_by length (P.lists preds.now)) }
 {
-    let mut runs = Vec::new(alloc);
+    let mut ranges = Vec::new(alloc);
     let mut arcs = 0;
     for id in 0..preds.count() {
-        arcs += u128::from(list_len(preds, id as u32, &mut runs)?);
+        arcs += u128::from(list_len(preds, id as u32, &mut ranges)?);
     }
     Ok(arcs)
 }
 
 // Returns the number of identifiers in the list of a block. The vector is scratch space for their ranges.
-fn list_len<P: PredLists>(preds: &P, id: u32, runs: &mut Vec<IdRun>) -> Result<u64, AllocError>
+fn list_len<P: PredLists>(preds: &P, id: u32, ranges: &mut Vec<IdRange>) -> Result<u64, AllocError>
     requires { id < length (P.lists preds.now) }
     ensures count { IfOk result (λ n. n ≡ length (slice_index_or (P.lists preds.now) id [])) }
     ensures countable { IfOk result (λ n. n < 2 ^ 63) }
 {
-    runs.clear();
-    preds.add_runs(runs, id)?;
-    Ok(count_of(runs.as_slice()))
+    ranges.clear();
+    preds.add_ranges(ranges, id)?;
+    Ok(count_of(ranges.as_slice()))
 }

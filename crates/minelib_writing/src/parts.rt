@@ -53,7 +53,6 @@ pub trait Parted {
 }
 
 /// Writes the lines after the bytes that the buffer holds.
-#[tactic(auto, using(crate::proofs::SectionsWritten::more_then))]
 pub fn write_parts<S: Sink, L: Parted>(
     sink: &mut S,
     buffer: &mut Vec<u8>,

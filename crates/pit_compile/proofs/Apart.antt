@@ -3,7 +3,7 @@ use Rattle.std.proofs.Common.{◌≡◌, ◌<◌, ◌&&◌, ◌||◌, ◌==◌, 
 use Rattle.std.specs.Prelude.{count_by, slice_index_or}
 use Rattle.std.proofs.lemmas.Bool.{and_parts, eqb-true}
 use Rattle.plan_parts.specs.declared.block.Block.{Block}
-use Rattle.precedence.specs.Identifier.{id, is_same_place}
+use Rattle.precedence.specs.Identifier.{id, is_same_cell}
 use Rattle.precedence.specs.Numbering.{NumberingView, IsNumbering}
 use Rattle.pit_compile.specs.Verdict.{AreApart}
 
@@ -11,7 +11,7 @@ use Rattle.pit_compile.specs.Verdict.{AreApart}
 id_at : List Block → ℕ → ℕ → ℕ → ℕ
 id_at listed x y z = count_by (λ a. nat_lt a.z z || ((a.z == z) && (nat_lt a.y y || ((a.y == y) && nat_lt a.x x)))) listed
 
-same_id : (listed : List Block) (a b : Block) → is_same_place a b ≡ true → id listed a ≡ id listed b
+same_id : (listed : List Block) (a b : Block) → is_same_cell a b ≡ true → id listed a ≡ id listed b
 unfolding id_at
 same_id listed a b h =
     let zs = and_parts _ _ h in
@@ -22,12 +22,12 @@ same_id listed a b h =
 
 -- blocks that are numbered stand apart
 pub apart : (listed : List Block) (n : NumberingView) → IsNumbering listed n → AreApart listed
-apart listed n h i j d before within = by_test (is_same_place (slice_index_or listed i d) (slice_index_or listed j d)) refl
+apart listed n h i j d before within = by_test (is_same_cell (slice_index_or listed i d) (slice_index_or listed j d)) refl
   where
     first : i < length listed
     first = omega arith
 
-    by_test : (b : Bool) → is_same_place (slice_index_or listed i d) (slice_index_or listed j d) ≡ b → b ≡ false
+    by_test : (b : Bool) → is_same_cell (slice_index_or listed i d) (slice_index_or listed j d) ≡ b → b ≡ false
     by_test false e = refl
     by_test true e =
         let same : i ≡ j =
@@ -39,4 +39,4 @@ apart listed n h i j d before within = by_test (is_same_place (slice_index_or li
 pub numbered_too : (P : Block → Type 0) (listed : List Block) (n : NumberingView) → IsNumbering listed n → All P listed → All P n.blocks
 numbered_too P listed n h all k d within =
     let there : k < length listed = omega (arith, h.blocks) in
-    subst P (h.stands k d there) (all (get_or n.positions k 0) d (h.within k there))
+    subst P (h.at_position k d there) (all (get_or n.positions k 0) d (h.within k there))

@@ -43,11 +43,19 @@ IsRefused plan remainders Failed old new OutOfMemory =
     (new ≡ old) ⊎ ((which : TextName) × IsStopped plan remainders which 0 old new)
 IsRefused plan remainders Failed old new verdict = IsVerdict plan remainders verdict × (new ≡ old)
 
--- what a run returns and does to its sinks, for a plan, the formulas of its destinations, its settings, and the number of threads that it
--- may start
-pub record Runs (plan : PlanParts) (formulas : List Formula) (chosen : Chosen) (remainders : List (Option (List ℕ))) (Failed : ℕ → Type 0)
-    (starts : ℕ) (old new : TextName → SinkState) (answer : Result GatheredView Refusal) : Type 0 where
-  pub settings : (kind : SettingsFault) → (answer ≡ Err (Settings kind)) ↔ IsSettingsFault plan (length remainders) formulas chosen kind
-  pub done : IfOk answer (IsDone plan remainders chosen.valuers chosen.capacity old new)
-  pub refused : IfErr answer (IsRefused plan remainders Failed old new)
-  pub budget : IfOk answer (λ _. chosen.valuers + length remainders ≤ starts)
+-- what a run starts with: a plan, the formulas of its destinations, its settings, what its feeds had left, and the number of threads that
+-- it may start
+pub record RunInputs : Type 0 where
+  pub plan : PlanParts
+  pub formulas : List Formula
+  pub settings : Chosen
+  pub remainders : List (Option (List ℕ))
+  pub starts : ℕ
+
+-- what a run returns and does to its sinks
+pub record Runs (run : RunInputs) (Failed : ℕ → Type 0) (old new : TextName → SinkState) (answer : Result GatheredView Refusal) : Type 0 where
+  pub settings : (kind : SettingsFault)
+      → (answer ≡ Err (Settings kind)) ↔ IsSettingsFault run.plan (length run.remainders) run.formulas run.settings kind
+  pub done : IfOk answer (IsDone run.plan run.remainders run.settings.valuers run.settings.capacity old new)
+  pub refused : IfErr answer (IsRefused run.plan run.remainders Failed old new)
+  pub budget : IfOk answer (λ _. run.settings.valuers + length run.remainders ≤ run.starts)

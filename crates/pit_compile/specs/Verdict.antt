@@ -1,7 +1,7 @@
 -- The verdict on the zone files of a plan.
 use Rattle.std.specs.Prelude.{◌≡◌, ℕ, ◌<◌, List, length, map, Some, None, false, slice_get, slice_index_or}
 use Rattle.std.specs.Option.{option_map}
-use Rattle.precedence.specs.Identifier.{is_same_place, IsFirstAgain}
+use Rattle.precedence.specs.Identifier.{is_same_cell, IsFirstAgain}
 use Rattle.plan_parts.specs.Plan.{PlanParts}
 use Rattle.plan_parts.specs.declared.block.Block.{Block}
 use Rattle.pit_compile.specs.Rows.{model_blocks, model_rows, fault_in}
@@ -12,7 +12,7 @@ use Rattle.refusals.specs.declared.refusal.RowAt.{RowAt}
 -- no two blocks of the list are in the same cell of the grid
 abbrev pub AreApart : List Block → Type 0
 AreApart blocks = (i j : ℕ) (d : Block) → i < j → j < length blocks
-    → is_same_place (slice_index_or blocks i d) (slice_index_or blocks j d) ≡ false
+    → is_same_cell (slice_index_or blocks i d) (slice_index_or blocks j d) ≡ false
 
 -- accepted: no file has a fault, and no cell of the grid has two blocks
 pub record IsAccepted (plan : PlanParts) (texts : List (List ℕ)) : Type 0 where

@@ -25,7 +25,7 @@ use mine_instance::{LazyCoefs, LazyValues};
 use pit_units::OrMemory;
 use plan_parts::formulas::destination::Destination;
 use plan_parts::plan::Plan;
-use precedence::FoundPreds;
+use precedence::LazyPreds;
 use refusals::refusal::Refusal;
 use run_threads::{Allowance, GivenFeeds, HandedOver, NoThread, Starts, hand_over};
 use std::alloc::Global;
@@ -40,7 +40,7 @@ pub struct Compiled {
     /// The messages that passed the lane.
     pub gathered: Gathered,
     /// The instance of the model. Its predecessors, coefficients and values are computed lazily.
-    pub instance: Instance<FoundPreds, LazyCoefs, LazyValues>,
+    pub instance: Instance<LazyPreds, LazyCoefs, LazyValues>,
 }
 
 /// Reads and values the zone files on threads, and builds the instance of the plan and these files. Starts no more threads

@@ -12,7 +12,7 @@ use crate::numbered::numbered;
 use mine_instance::instance::Instance;
 use mine_instance::{LazyCoefs, LazyValues, build_with};
 use plan_parts::plan::Plan;
-use precedence::FoundPreds;
+use precedence::LazyPreds;
 use refusals::refusal::Refusal;
 use rows::RowLists;
 use std::alloc::Global;
@@ -28,7 +28,7 @@ pub fn instance_of_rows(
     alloc: Global,
     rows: RowLists,
     plan: &Plan,
-) -> Result<Instance<FoundPreds, LazyCoefs, LazyValues>, Refusal>
+) -> Result<Instance<LazyPreds, LazyCoefs, LazyValues>, Refusal>
     requires { AreModelRows plan.now rows }
     ensures apart { IfOk result (λ _. AreApart (blocks_of_rows rows)) }
     ensures value { IfOk result (λ built. built ≡ instance plan.now (blocks_of_rows rows)) }
@@ -37,7 +37,7 @@ pub fn instance_of_rows(
 {
     let numbering = numbered(alloc, &rows)?;
     let worths = rows.into_worths(alloc)?;
-    let preds = FoundPreds::new(alloc, &numbering, plan)?;
+    let preds = LazyPreds::new(alloc, &numbering, plan)?;
     let (blocks, positions) = numbering.into_parts();
     let values = LazyValues::new(worths, positions);
     Ok(build_with(alloc, blocks, preds, values, plan)?)

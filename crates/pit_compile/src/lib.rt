@@ -14,5 +14,5 @@ pub mod sinks;
 pub use compiling::{Compiled, compile, compile_with_starts};
 pub use refusals::refusal;
 pub use run_threads::Starts;
-pub use running::{MOST_STARTS, run, run_limited, run_with_starts};
+pub use running::{MAX_STARTS, run, run_limited, run_with_starts};
 pub use sink_writing::write_texts;

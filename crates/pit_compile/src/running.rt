@@ -5,7 +5,7 @@ ghost use Rattle.devices.specs.feeds.FeedState.{all_remaining};
 ghost use Rattle.pit_compile.specs.Run.{Runs};
 ghost use Rattle.pit_compile.specs.Sinks.{sink_states};
 ghost use Rattle.pit_compile.specs.Starts.{SpendsStarts};
-ghost use Rattle.pit_compile.specs.declared.running.TheConstants.{MOST_STARTS};
+ghost use Rattle.pit_compile.specs.declared.running.TheConstants.{MAX_STARTS};
 ghost use Rattle.plan_parts.specs.Destinations.{formulas_of};
 ghost use Rattle.run_threads.specs.Refusing.{HasFailed};
 ghost use Rattle.run_threads.specs.Starts.{none_spent};
@@ -28,7 +28,7 @@ use std::thread::Threads;
 use valuers::Gate;
 
 /// The number of threads that a run may start: one for each zone file and each valuer, at the largest numbers of both.
-pub const MOST_STARTS: u32 = MAX_ZONES as u32 + MAX_VALUERS as u32;
+pub const MAX_STARTS: u32 = MAX_ZONES as u32 + MAX_VALUERS as u32;
 
 /// Reads and values the zone files on threads, builds the instance of the plan and these files, and writes the instance to
 /// the sinks. Begins the sinks only after all blocks are known to be in different cells. Returns the messages that passed the
@@ -38,7 +38,7 @@ pub const MOST_STARTS: u32 = MAX_ZONES as u32 + MAX_VALUERS as u32;
 ///
 /// Returns the first that applies:
 ///
-/// - an error of `compile` with a budget of `MOST_STARTS` starts. Every sink is unchanged.
+/// - an error of `compile` with a budget of `MAX_STARTS` starts. Every sink is unchanged.
 /// - `SinkFailed` if a sink refused a call, or `OutOfMemory` in writing. The sinks before that sink hold their files. That
 ///   sink is unchanged, or begun with a prefix of its file. The sinks after it are unchanged.
 pub fn run<R: Threads + Wait + Sync, F: Feed + Send + Drop, G: Gate + Sync, S: Sink>(
@@ -51,9 +51,13 @@ pub fn run<R: Threads + Wait + Sync, F: Feed + Send + Drop, G: Gate + Sync, S: S
     gate: &G,
     sinks: &mut Sinks<S>,
 ) -> Result<Gathered, Refusal>
-    ensures { let states = sink_states S.state in
-        Runs plan.now (formulas_of destinations.now) settings (all_remaining F.state feeds.items)
-        (HasFailed F.state feeds.items) MOST_STARTS (states sinks.old) (states sinks.new) result }
+    ensures { let states = sink_states S.state in Runs (record {
+      plan = plan.now;
+      formulas = formulas_of destinations.now;
+      settings = settings;
+      remainders = all_remaining F.state feeds.items;
+      starts = MAX_STARTS;
+    }) (HasFailed F.state feeds.items) (states sinks.old) (states sinks.new) result }
 {
     run_limited(
         rt,
@@ -62,7 +66,7 @@ pub fn run<R: Threads + Wait + Sync, F: Feed + Send + Drop, G: Gate + Sync, S: S
         plan,
         destinations,
         settings,
-        MOST_STARTS,
+        MAX_STARTS,
         gate,
         sinks,
     )
@@ -80,9 +84,13 @@ pub fn run_limited<R: Threads + Wait + Sync, F: Feed + Send + Drop, G: Gate + Sy
     gate: &G,
     sinks: &mut Sinks<S>,
 ) -> Result<Gathered, Refusal>
-    ensures { let states = sink_states S.state in
-        Runs plan.now (formulas_of destinations.now) settings (all_remaining F.state feeds.items)
-        (HasFailed F.state feeds.items) starts (states sinks.old) (states sinks.new) result }
+    ensures { let states = sink_states S.state in Runs (record {
+      plan = plan.now;
+      formulas = formulas_of destinations.now;
+      settings = settings;
+      remainders = all_remaining F.state feeds.items;
+      starts = starts;
+    }) (HasFailed F.state feeds.items) (states sinks.old) (states sinks.new) result }
 {
     let mut starts = Starts::with_gate(rt, starts, gate);
     run_with_starts(
@@ -108,10 +116,13 @@ pub fn run_with_starts<R: Threads + Wait + Sync, F: Feed + Send + Drop, G: Gate 
     sinks: &mut Sinks<S>,
 ) -> Result<Gathered, Refusal>
     requires unspent { starts.old ≡ none_spent starts.old.allowed }
-    ensures runs { let states = sink_states S.state in
-        Runs plan.now (formulas_of destinations.now) settings (all_remaining F.state feeds.items)
-        (HasFailed F.state feeds.items) starts.old.allowed (states sinks.old)
-        (states sinks.new) result }
+    ensures runs { let states = sink_states S.state in Runs (record {
+      plan = plan.now;
+      formulas = formulas_of destinations.now;
+      settings = settings;
+      remainders = all_remaining F.state feeds.items;
+      starts = starts.old.allowed;
+    }) (HasFailed F.state feeds.items) (states sinks.old) (states sinks.new) result }
 
     // What was started.
     ensures spends { SpendsStarts (settings.valuers + length feeds.items) starts.old starts.new

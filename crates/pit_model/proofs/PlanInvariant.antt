@@ -191,7 +191,7 @@ encoded_plan rows p (s, all, are) = by (records_in_range 1 nothing_stated s rows
           rw are.periods at kept.limits,
         ))
       where
-        same : plan_of p.name p.grid s.cones s.formulas p.periods p.rate s.resources s.limits ≡ p
+        same : plan_of p.name p.grid s.cones s.formulas (record { periods = p.periods; rate = p.rate }) s.resources s.limits ≡ p
         same i = record {
           name = p.name;
           grid = p.grid;

@@ -139,11 +139,11 @@ module _ (s : Stated) where
       reported (Some name) (Some grid) (Some periods) (Some rate) n g k r p e = by (length s.cones == 0) refl (length s.formulas == 0) refl e
         where
           by : (c : Bool) → (length s.cones == 0) ≡ c → (f : Bool) → (length s.formulas == 0) ≡ f
-              → (if c || f then Err Missing else Ok (plan_of name grid s.cones s.formulas periods rate s.resources s.limits)) ≡ Ok p → ArePlan s p
+              → (if c || f then Err Missing else Ok (plan_of name grid s.cones s.formulas (record { periods = periods; rate = rate }) s.resources s.limits)) ≡ Ok p → ArePlan s p
           by true c f d e = absurd cc
           by false c true d e = absurd cc
           by false c false d e =
-              subst (ArePlan s) (same (plan_of name grid s.cones s.formulas periods rate s.resources s.limits) p e) (record {
+              subst (ArePlan s) (same (plan_of name grid s.cones s.formulas (record { periods = periods; rate = rate }) s.resources s.limits) p e) (record {
                 name = n;
                 grid = g;
                 cones = (some s.cones c, refl);
@@ -161,7 +161,7 @@ module _ (s : Stated) where
       back : (p : PlanParts) → ArePlan s p → finished s ≡ Ok p
       back p h =
           (λ i. whole_plan (h.name i) (h.grid i) (h.periods i) (h.rate i) s)
-          ∙ ap (λ missing. if missing then Err Missing else Ok (plan_of p.name p.grid s.cones s.formulas p.periods p.rate s.resources s.limits))
+          ∙ ap (λ missing. if missing then Err Missing else Ok (plan_of p.name p.grid s.cones s.formulas (record { periods = p.periods; rate = p.rate }) s.resources s.limits))
           (ap (λ c. c || (length s.formulas == 0)) (none s.cones h.cones.0) ∙ none s.formulas h.formulas.0)
           ∙ (λ i. Ok (record {
             name = p.name;
@@ -182,7 +182,7 @@ module _ (s : Stated) where
           → kind ≡ Missing
       reported (Some name) (Some grid) (Some periods) (Some rate) e = by ((length s.cones == 0) || (length s.formulas == 0)) e
         where
-          by : (t : Bool) → (if t then Err Missing else Ok (plan_of name grid s.cones s.formulas periods rate s.resources s.limits)) ≡ Err kind
+          by : (t : Bool) → (if t then Err Missing else Ok (plan_of name grid s.cones s.formulas (record { periods = periods; rate = rate }) s.resources s.limits)) ≡ Err kind
               → kind ≡ Missing
           by true e = let same : Missing ≡ kind = cc in sym same
           by false e = absurd cc

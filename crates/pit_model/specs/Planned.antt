@@ -31,7 +31,7 @@ records_from number s (row ∷ rows) = record_at number s row >>= λ next. recor
 abbrev pub whole_plan : Option (List ℕ) → Option Grid → Option ℕ → Option ℤ → Stated → Result PlanParts PlanFaultKind
 whole_plan (Some name) (Some grid) (Some periods) (Some rate) s =
     if (length s.cones == 0) || (length s.formulas == 0) then Err Missing
-    else Ok (plan_of name grid s.cones s.formulas periods rate s.resources s.limits)
+    else Ok (plan_of name grid s.cones s.formulas (record { periods = periods; rate = rate }) s.resources s.limits)
 whole_plan name grid periods rate s = Err Missing
 
 -- the plan after all records, if no required part is missing

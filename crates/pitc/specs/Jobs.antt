@@ -1,10 +1,11 @@
 -- What `pitc` does for its arguments.
 use Rattle.std.specs.Prelude.{◌≡◌, ◌⊎◌, ℕ, List, Option, map, string_bytes}
 use Rattle.check_command.specs.Checked.{IsCheckStatus, IsFoundIn, ReportsFiles}
+use Rattle.command_io.specs.Ending.{IsDoneOrReported}
 use Rattle.command_io.specs.FaultLine.{IsDoneOrRefused}
 use Rattle.command_io.specs.PlanFile.{IsNotBegun, IsPlanAt}
 use Rattle.command_io.specs.RunState.{inputs_of_plan}
-use Rattle.command_io.specs.World.{CommandEnds, World}
+use Rattle.command_io.specs.World.{OnlyPrints, CommandEnds, MakesNothing, OnlyOpens, World}
 use Rattle.command_io.specs.declared.refused.Refused.{Refused}
 use Rattle.command_io.specs.declared.refused.Refused.TheVariants.{Run}
 use Rattle.command_lines.specs.Asked.{DoesAsked, ShowsFault}
@@ -13,6 +14,8 @@ use Rattle.command_lines.specs.declared.job.Job.{Job}
 use Rattle.command_lines.specs.declared.job.Job.TheVariants.{Check, Compile}
 use Rattle.command_lines.specs.declared.job.RunArguments.{RunArguments}
 use Rattle.compile_command.specs.BaseFiles.{IsNoCompileAt, ReportsRowsAt}
+use Rattle.compile_command.specs.Printed.{IsNoInput, IsNotPrinted, PrintsInput}
+use Rattle.compile_command.specs.Task.{TouchesNoFile}
 use Rattle.devices.specs.feeds.FeedState.{FeedState}
 use Rattle.devices.specs.files.Opening.{Opening}
 use Rattle.devices.specs.sinks.FileSinkView.{FileSinkView}
@@ -20,13 +23,12 @@ use Rattle.pit_compile.specs.declared.sinks.Sinks.{Sinks}
 use Rattle.plan_parts.specs.Plan.{PlanParts}
 use Rattle.refusals.specs.declared.refusal.Refusal.TheVariants.{OutOfMemory}
 
--- nothing but the requests to open files, the text and the lines changed
-abbrev pub MakesNothing : (old new : World) → Type 0
-MakesNothing old new = (new.made ≡ old.made) × (new.starts ≡ old.starts)
-
--- nothing but the text and the lines changed
-abbrev pub AsksNothing : (old new : World) → Type 0
-AsksNothing old new = (new.opened ≡ old.opened) × MakesNothing old new
+-- what the pipe form did, by the state of its input before and after, or why it has no model, which was reported; it opened and made
+-- nothing
+abbrev pub Pipes : (input_old input_new : FeedState) → (old new : World) → (status : ℕ) → Type 0
+Pipes input_old input_new old new status =
+    IsDoneOrReported (λ status. CommandEnds (PrintsInput input_old input_new) (IsNotPrinted input_old input_new) old new status × TouchesNoFile old new)
+    (λ left refused. IsNoInput input_old input_new refused × OnlyOpens old left × TouchesNoFile old left) new status
 
 -- by the states of feeds of files
 module _ {F : Type 0} (state : F → FeedState) where
@@ -66,10 +68,16 @@ module _ {F : Type 0} (state : F → FeedState) where
     abbrev pub DoesArguments : List (List ℕ) → Option (Sinks FileSinkView) → (old new : World) → (status : ℕ) → Type 0
     DoesArguments arguments sinks old new status =
         DoesAsked program (StatesJob arguments) (λ job. DoesJob job sinks old new status)
-        (λ fault. ShowsFault fault old.text new.text old.lines new.lines status × AsksNothing old new) arguments
+        (λ fault. ShowsFault fault old.text new.text old.lines new.lines status × OnlyPrints old new) arguments
 
   -- why nothing was done for them
   abbrev pub IsNothingDone : List (List ℕ) → (old new : World) → Refused → Type 0
   IsNothingDone arguments old new refused =
       DoesAsked program (StatesJob arguments) (λ job. IsNoJob job old new refused)
       (λ fault. (refused ≡ Run OutOfMemory) × (new.opened ≡ old.opened)) arguments
+
+  -- what was done for them, or why nothing was done, which was reported
+  abbrev pub WorksFor : {T : Type 0} → (T → List ℕ) → List (List ℕ) → (old new : World) → (status : ℕ) → Type 0
+  WorksFor path arguments old new status =
+      IsDoneOrReported (λ status. (sinks : Option (Sinks FileSinkView)) × DoesArguments path arguments sinks old new status)
+      (λ left refused. IsNothingDone arguments old left refused × OnlyOpens old left) new status

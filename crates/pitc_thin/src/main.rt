@@ -4,32 +4,33 @@
 #![tactic(auto)]
 
 ghost use Rattle.std.specs.Prelude.{◌≡◌, ◌++◌, [], ◌∷◌, Err, map, string_bytes, IfErr, IfOk, OnErr, OnOk};
+ghost use Rattle.std.specs.Process.{exit_status};
+ghost use Rattle.command_io.specs.Ending.{Exits, Reports};
 ghost use Rattle.command_io.specs.PlanFile.{IsNotBegun};
 ghost use Rattle.command_io.specs.RunState.{inputs_of_plan, run_state};
-ghost use Rattle.command_io.specs.World.{CommandEnds};
+ghost use Rattle.command_io.specs.World.{CommandEnds, OnlyOpens};
 ghost use Rattle.devices.specs.sinks.FileSinkView.{file_sink_state, unbegun};
-ghost use Rattle.pitc_thin.specs.Thinning.{DoesArguments, IsNothingDone, Thins};
+ghost use Rattle.pitc_thin.specs.Thinning.{DoesArguments, IsNothingDone, Thins, WorksFor};
 ghost use Rattle.plan_parts.specs.formulas.Formula.{IsFormulaInRange};
 ghost use Rattle.plan_parts.specs.formulas.Worth.{worth};
 ghost use Rattle.run_threads.specs.Starts.{none_spent, AreSettled};
-ghost use Rattle.thin_command.specs.Thin.{IsNotThinned, TellsThinned};
+ghost use Rattle.thin_command.specs.Thin.{IsNotThinned, ReportsThinned};
 
 use command_io::arguments::arguments_of;
+use command_io::ending::{Ended, Streams, end};
 use command_io::plan_file::read_plan_file;
 use command_io::refused::Refused;
-use command_io::refused::fault_line::report;
-use command_io::refused::status::finish;
 use command_io::world::World;
 use command_lines::job::{RunArguments, append_fault};
 use command_lines::thin_line::thin_run;
-use devices::files::file_slot::{FileSlot, FileSlots};
+use devices::files::file_slot::FileSlots;
 use devices::files::opener::Opener;
 use devices::files::system_files::SystemFiles;
 use devices::files::system_slots::SystemSlots;
 use devices::sinks::file_sink::FileSink;
 use devices::sinks::sink::Sink;
 use devices::sinks::write_sink::WriteSink;
-use pit_compile::{MOST_STARTS, Starts};
+use pit_compile::{MAX_STARTS, Starts};
 use pit_model::block::Block;
 use pit_model::destination::{Destination, Valuer};
 use pit_model::plan::Plan;
@@ -43,19 +44,19 @@ use thin_command::thin::thin;
 
 fn main(rt: HostRuntime) -> ExitCode {
     let alloc = rt.alloc();
-    program(
+    start(
         alloc,
         arguments_of(alloc, env::args(&rt)),
         SystemFiles::new(&rt),
         SystemSlots::new(&rt),
-        Starts::new(&rt, MOST_STARTS),
+        Starts::new(&rt, MAX_STARTS),
         WriteSink::new(rt.stdout()),
         WriteSink::new(rt.stderr()),
     )
 }
 
-// Runs the program in a world of these files, slots and starts, and prints what `work` leaves there.
-fn program<
+// Runs the program in a world of these files, slots and starts.
+fn start<
     O: Opener + Drop,
     F: FileSlots + Drop,
     T: Threads + Wait + Sync,
@@ -67,30 +68,33 @@ fn program<
     files: O,
     slots: F,
     starts: Starts<'_, T>,
-    mut output: P,
-    mut errors: E,
+    output: P,
+    errors: E,
 ) -> ExitCode
     requires unspent { starts ≡ none_spent starts.allowed }
 {
     let mut world = World::new(alloc, files, slots, starts);
-    let status = match work(alloc, arguments, &mut world) {
-        Ok(ended) => ended.status,
-        Err(refused) => report(alloc, &refused, &mut world.lines),
-    };
-    finish(
-        &mut output,
-        &mut errors,
-        status,
-        world.text.as_slice(),
-        world.lines.as_slice(),
-    )
+    let mut streams = Streams { output, errors };
+    program(alloc, arguments, &mut world, &mut streams)
 }
 
-// The end of the program: its exit status, and the sink of FILE if its slot was made.
-#[derive(Drop)]
-struct Ended<P: FileSlot> {
-    status: u8,
-    sink: Option<FileSink<P>>,
+// Does what the arguments state, and prints what that leaves in the world. Returns the exit status of the program.
+fn program<T: Threads + Wait + Sync, O: Opener + Drop, F: FileSlots + Drop, P: Sink, E: Sink>(
+    alloc: Global,
+    arguments: Result<Vec<String>, Refused>,
+    world: &mut World<'_, O, F, T>,
+    streams: &mut Streams<P, E>,
+) -> ExitCode
+    requires unspent { world.old.starts ≡ none_spent world.old.starts.allowed }
+    ensures unusable { IfErr arguments (λ refused. Exits P.state E.state
+        (Reports refused world.old world.new) world.new streams.old streams.new (exit_status result)) }
+    ensures done { IfOk arguments (λ words. Exits P.state E.state
+        (WorksFor O.Opened.state (map string_bytes words.items) world.old world.new)
+        world.new streams.old streams.new (exit_status result)) }
+    ensures settled { AreSettled world.old.starts world.new.starts }
+{
+    let ended = work(alloc, arguments, world);
+    end(alloc, ended, world, streams)
 }
 
 // Does what the arguments state, and returns how it ended.
@@ -98,16 +102,14 @@ fn work<T: Threads + Wait + Sync, O: Opener + Drop, F: FileSlots + Drop>(
     alloc: Global,
     arguments: Result<Vec<String>, Refused>,
     world: &mut World<'_, O, F, T>,
-) -> Result<Ended<F::Slot>, Refused>
+) -> Result<Ended<FileSink<F::Slot>>, Refused>
     requires unspent { world.old.starts ≡ none_spent world.old.starts.allowed }
     ensures unusable { IfErr arguments (λ refused. (result ≡ Err refused) × (world.new ≡ world.old)) }
     ensures done { IfOk arguments (λ words. IfOk result (λ ended. DoesArguments O.Opened.state
-        (map string_bytes words.items) ended.sink world.old world.new ended.status)) }
+        (map string_bytes words.items) ended.sinks world.old world.new ended.status)) }
     ensures undone { IfOk arguments (λ words. IfErr result (IsNothingDone O.Opened.state
         (map string_bytes words.items) world.old world.new)) }
-    ensures still { OnErr result ((world.new.made ≡ world.old.made)
-        × (world.new.starts ≡ world.old.starts) × (world.new.text ≡ world.old.text)
-        × (world.new.lines ≡ world.old.lines)) }
+    ensures still { OnErr result (OnlyOpens world.old world.new) }
     ensures settled { AreSettled world.old.starts world.new.starts }
 {
     let arguments = arguments?;
@@ -119,22 +121,23 @@ fn perform<T: Threads + Wait + Sync, O: Opener + Drop, F: FileSlots + Drop>(
     alloc: Global,
     arguments: &[String],
     world: &mut World<'_, O, F, T>,
-) -> Result<Ended<F::Slot>, Refused>
+) -> Result<Ended<FileSink<F::Slot>>, Refused>
     requires unspent { world.old.starts ≡ none_spent world.old.starts.allowed }
     ensures done { IfOk result (λ ended. DoesArguments O.Opened.state
-        (map string_bytes arguments.now) ended.sink world.old world.new ended.status) }
+        (map string_bytes arguments.now) ended.sinks world.old world.new ended.status) }
     ensures undone { IfErr result (IsNothingDone O.Opened.state
         (map string_bytes arguments.now) world.old world.new) }
-    ensures still { OnErr result ((world.new.made ≡ world.old.made)
-        × (world.new.starts ≡ world.old.starts) × (world.new.text ≡ world.old.text)
-        × (world.new.lines ≡ world.old.lines)) }
+    ensures still { OnErr result (OnlyOpens world.old world.new) }
     ensures settled { AreSettled world.old.starts world.new.starts }
 {
     match thin_run(alloc, arguments) {
         Ok(run) => thin_from(alloc, run, world),
         Err(fault) => {
             let status = append_fault(alloc, &fault, &mut world.text, &mut world.lines)?;
-            Ok(Ended { status, sink: None })
+            Ok(Ended {
+                status,
+                sinks: None,
+            })
         }
     }
 }
@@ -144,15 +147,13 @@ fn thin_from<T: Threads + Wait + Sync, O: Opener + Drop, F: FileSlots + Drop>(
     alloc: Global,
     arguments: RunArguments,
     world: &mut World<'_, O, F, T>,
-) -> Result<Ended<F::Slot>, Refused>
+) -> Result<Ended<FileSink<F::Slot>>, Refused>
     requires unspent { world.old.starts ≡ none_spent world.old.starts.allowed }
-    ensures ends { IfOk result (λ ended. Thins O.Opened.state arguments ended.sink
+    ensures ends { IfOk result (λ ended. Thins O.Opened.state arguments ended.sinks
         world.old world.new ended.status) }
     ensures unread { IfErr result (IsNotBegun O.Opened.state (string_bytes arguments.plan)
         world.old.opened world.new.opened) }
-    ensures still { OnErr result ((world.new.made ≡ world.old.made)
-        × (world.new.starts ≡ world.old.starts) × (world.new.text ≡ world.old.text)
-        × (world.new.lines ≡ world.old.lines)) }
+    ensures still { OnErr result (OnlyOpens world.old world.new) }
     ensures settled { AreSettled world.old.starts world.new.starts }
 {
     let plan = read_plan_file(alloc, &mut world.files, arguments.plan.as_str())?;
@@ -165,7 +166,7 @@ fn thin_from<T: Threads + Wait + Sync, O: Opener + Drop, F: FileSlots + Drop>(
     let run = run(alloc, &plan, settings, zones.as_slice(), out, world)?;
     Ok(Ended {
         status: run.0,
-        sink: Some(run.1),
+        sinks: Some(run.1),
     })
 }
 
@@ -183,7 +184,7 @@ fn run<T: Threads + Wait + Sync, O: Opener + Drop, F: FileSlots + Drop>(
     ensures ends { let inputs = inputs_of_plan plan.now (map string_bytes zones.now) settings in
         let first = file_sink_state (unbegun F.Slot.reports (string_bytes out)) in
         IfOk result (λ ended. CommandEnds
-        (λ old new. TellsThinned inputs (run_state old.opened old.starts first)
+        (λ old new. ReportsThinned inputs (run_state old.opened old.starts first)
         (run_state new.opened new.starts (file_sink_state ended.1)) old.text new.text)
         (λ old new. IsNotThinned inputs (run_state old.opened old.starts first)
         (run_state new.opened new.starts (file_sink_state ended.1)) O.Opened.state)

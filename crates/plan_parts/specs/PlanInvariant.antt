@@ -11,18 +11,19 @@ use Rattle.plan_parts.specs.declared.resource.Resource.{Resource}
 use Rattle.plan_parts.specs.declared.limit.Bound.{Bound}
 use Rattle.plan_parts.specs.declared.limit.Bound.TheVariants.{AtMost, AtLeast, Between}
 use Rattle.plan_parts.specs.declared.limit.Limit.{Limit}
+use Rattle.plan_parts.specs.declared.plan.Horizon.{Horizon}
 use Rattle.plan_parts.specs.declared.ranges.TheConstants.{MAX_BENCHES, MAX_DESTINATIONS, MAX_ORIGIN, MAX_PERIODS, MAX_RATE, MAX_RESOURCES, MAX_SIZE, MAX_SLOPE, MAX_TONNES, MAX_ZONES, MIN_ORIGIN}
 use Rattle.plan_parts.specs.Plan.{PlanParts}
 
 -- the plan with these parts
-abbrev pub plan_of : List ℕ → Grid → List Cone → List NamedFormula → ℕ → ℤ → List Resource → List Limit → PlanParts
-plan_of name grid cones formulas periods rate resources limits = record {
+abbrev pub plan_of : List ℕ → Grid → List Cone → List NamedFormula → Horizon → List Resource → List Limit → PlanParts
+plan_of name grid cones formulas horizon resources limits = record {
   name = name;
   grid = grid;
   cones = cones;
   formulas = formulas;
-  periods = periods;
-  rate = rate;
+  periods = horizon.periods;
+  rate = horizon.rate;
   resources = resources;
   limits = limits;
 }

@@ -58,10 +58,10 @@ impl Plan {
         resources: Vec<Resource>,
         limits: Vec<Limit>,
     ) -> Plan
-        requires { IsPlan (plan_of name grid cones.items formulas.items horizon.periods horizon.rate
-            resources.items limits.items) }
-        ensures { result ≡ plan_of name grid cones.items formulas.items horizon.periods horizon.rate
-            resources.items limits.items }
+        requires { IsPlan (plan_of name grid cones.items formulas.items horizon resources.items
+            limits.items) }
+        ensures { result ≡ plan_of name grid cones.items formulas.items horizon resources.items
+            limits.items }
     {
         Plan {
             name,

@@ -15,18 +15,18 @@ use Rattle.plan_parts.specs.declared.cone.Cone.{Cone}
 use Rattle.plan_parts.specs.declared.grid.Grid.{Grid}
 use Rattle.precedence.specs.Codes.{place_code, place_codes}
 use Rattle.precedence.specs.declared.places.code.TheConstants.{CODES}
-use Rattle.precedence.specs.Cone.{above, is_above, is_within_slopes, places_where, preds, slope_along_x, slope_along_y}
+use Rattle.precedence.specs.Cone.{above, is_above, is_within_slopes, positions_where, preds, slope_along_x, slope_along_y}
 use Rattle.precedence.specs.Zones.{HasZones}
-use Rattle.precedence.specs.inner.FoundFields.{found_in, KeepsFound}
+use Rattle.precedence.specs.inner.LazyPredsFields.{lazy_lists_of, IsLazyPreds}
 use Rattle.precedence.specs.inner.Lists.{in_cone, in_cones}
 use Rattle.precedence.specs.inner.Rows.{is_in_rows, AreInOrder, IsTable, IsWithin}
-use Rattle.precedence.specs.inner.ZoneTables.{HasTables, IsTold, zone_rows}
+use Rattle.precedence.specs.inner.ZoneTables.{HasTables, IsExact, zone_rows}
 use Rattle.precedence.specs.declared.cones.cone_table.ConeTable.{ConeTable}
 use Rattle.precedence.specs.declared.cones.cone_rows.Extent.{Extent}
 use Rattle.precedence.specs.declared.cones.cone_rows.Row.{Row}
-use Rattle.precedence.specs.declared.lists.found_preds.FoundPreds.TheInside.{Inside}
-use Rattle.precedence.proofs.PlacesWhere.{length-places_where}
-use Rattle.precedence.proofs.runs.RunsOfRows.{before_rows}
+use Rattle.precedence.specs.declared.lists.lazy_preds.LazyPreds.TheInside.{Inside}
+use Rattle.precedence.proofs.PositionsWhere.{length-positions_where}
+use Rattle.precedence.proofs.ranges.RangesOfRows.{before_rows}
 
 -- an element of the list meets what all elements meet
 pub all_at : {X : Type 0} (P : X → Type 0) (xs : List X) (k : ℕ) (x : X) → All P xs → k < length xs → slice_get xs k ≡ Some x → P x
@@ -34,7 +34,7 @@ all_at P xs k x all lt is = subst P (get_or_from_slice_get xs k x x is) (all k x
 
 -- a test of codes finds the blocks that pass the same test
 pub blocks_where : (test : ℕ → Bool) (other : Block → Bool) (n : ℕ) (bs : List Block) → All (λ b. test (place_code b) ≡ other b) bs
-    → places_where test n (place_codes bs) ≡ places_where other n bs
+    → positions_where test n (place_codes bs) ≡ positions_where other n bs
 blocks_where test other n [] h = refl
 blocks_where test other n (b ∷ bs) h =
     let first = All-head (λ b. test (place_code b) ≡ other b) b bs h in
@@ -85,14 +85,14 @@ module _ (plan : PlanParts) (extents : List Extent) (tables : List ConeTable) (o
       )
 
   -- the rows contain another block's code exactly if that block is above
-  told_is : (cone : Cone) (rows : List Row) (k j : ℕ) (d e : Block) → k < length blocks → j < length blocks → AreInOrder rows
+  exact_is : (cone : Cone) (rows : List Row) (k j : ℕ) (d e : Block) → k < length blocks → j < length blocks → AreInOrder rows
       → IsTable plan.grid cone (get_or extents (get_or blocks k d).zone nowhere) rows
       → is_in_rows (place_code (get_or blocks k d)) rows (place_code (get_or blocks j e)) ≡ is_above plan.grid cone (get_or blocks k d) (get_or blocks j e)
-  told_is cone rows k j d e lt within order table = ⊎_elim
+  exact_is cone rows k j d e lt within order table = ⊎_elim
       (λ before. none_before plan.grid cone rows (get_or blocks k d) (get_or blocks j e) order (less_before j k d e before lt))
-      (λ behind. table.told (get_or blocks k d) (get_or blocks j e)
+      (λ after. table.exact (get_or blocks k d) (get_or blocks j e)
       (subst (IsWithin (get_or extents (get_or blocks k d).zone nowhere) (get_or blocks k d)) (get_or_default blocks j d e within)
-      (near k j d nowhere behind within)))
+      (near k j d nowhere after within)))
       (cases_lt j k)
 
   -- the list of one block
@@ -110,9 +110,9 @@ module _ (plan : PlanParts) (extents : List Extent) (tables : List ConeTable) (o
       ∙ ap (λ (t : ConeTable). t.cone) (get_or_from_slice_get tables (place low.zone) table table found.2) in
       let same : slice_get plan.cones low.zone ≡ Some cone =
       slice_get-get_or plan.cones low.zone cone here ∙ ap (λ (c : Cone). Some c) own in
-      let told = all_at (IsTold plan.grid plan.cones extents) tables (place low.zone) table has.told found.1 found.2 in
+      let exact = all_at (IsExact plan.grid plan.cones extents) tables (place low.zone) table has.exact found.1 found.2 in
       rw (found.2, same) (blocks_where (is_in_rows (place_code low) table.rows.items) (is_above plan.grid cone low) 0 blocks
-      (λ j e within. told_is cone table.rows.items k j d e lt within (10 ^ 15, table.in_order) (told.each low.zone cone nowhere here own))))
+      (λ j e within. exact_is cone table.rows.items k j d e lt within (10 ^ 15, table.in_order) (exact.each low.zone cone nowhere here own))))
       (λ past. let below = has.below low.zone 0 (omega (arith, has.zones)) in absurd (omega (arith, past.0)))
       ((slice_get_cases tables (place low.zone)).1)
 
@@ -128,29 +128,29 @@ codes_small blocks = All-map (λ c. c < CODES) place_code blocks (λ k d lt. sma
     small b = omega (arith, b.x_in_grid, b.y_in_grid, b.z_in_grid)
 
 -- the result of a search
-module _ (f : Inside) (keeps : KeepsFound f) where
+module _ (f : Inside) (keeps : IsLazyPreds f) where
   abbrev one : ℕ → ℕ → List ℕ
   one = in_cone f.tables.tables.items f.tables.of_zone.items f.places.codes.items
 
-  pub found_length : length (found_in f) ≡ length f.zones.items
-  found_length = length-zip2 one f.zones.items f.places.codes.items keeps.each
+  pub lazy_length : length (lazy_lists_of f) ≡ length f.zones.items
+  lazy_length = length-zip2 one f.zones.items f.places.codes.items keeps.each
 
-  pub found_at : (lists : List (List ℕ)) (id zone from : ℕ) → found_in f ≡ lists → id < length lists
+  pub found_at : (lists : List (List ℕ)) (id zone from : ℕ) → lazy_lists_of f ≡ lists → id < length lists
       → zone ≡ get_or f.zones.items id zone → from ≡ get_or f.places.codes.items id from → get_or lists id [] ≡ one zone from
   found_at lists id zone from is lt of_block at_place =
       ap (λ lists. get_or lists id []) (sym is)
       ∙ get_or-zip2 one f.zones.items f.places.codes.items id zone from []
-      (omega (arith, found_length, ap length is)) (omega (arith, found_length, ap length is, keeps.each))
+      (omega (arith, lazy_length, ap length is)) (omega (arith, lazy_length, ap length is, keeps.each))
       ∙ (λ j. one (sym of_block j) (sym at_place j))
 
   -- a list has no more identifiers than there are blocks
-  pub few_found : (lists : List (List ℕ)) (id zone from : ℕ) → found_in f ≡ lists → id < length lists
+  pub few_found : (lists : List (List ℕ)) (id zone from : ℕ) → lazy_lists_of f ≡ lists → id < length lists
       → zone ≡ get_or f.zones.items id zone → from ≡ get_or f.places.codes.items id from → length (get_or lists id []) < 2 ^ 63
   few_found lists id zone from is lt of_block at_place =
       let test = is_in_rows from (zone_rows f.tables.tables.items f.tables.of_zone.items zone) in
       omega (
         arith,
         ap length (found_at lists id zone from is lt of_block at_place),
-        length-places_where test 0 f.places.codes.items,
+        length-positions_where test 0 f.places.codes.items,
         f.places.few,
       )

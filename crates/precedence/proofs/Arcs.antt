@@ -8,14 +8,14 @@ use Rattle.std.proofs.lemmas.Bool.{cases_Bool, cases_lt, eqb-true, eqb-false, lt
 use Rattle.std.proofs.lemmas.List.Elements.{All-head, All-tail}
 use Rattle.std.proofs.lemmas.List.FromFn.{length-range_with_len}
 use Rattle.std.proofs.lemmas.List.Sums.{sum_by-cons, sum_by_more}
-use Rattle.precedence.specs.Cone.{places_where}
-use Rattle.precedence.specs.IdRuns.{is_in}
+use Rattle.precedence.specs.Cone.{positions_where}
+use Rattle.precedence.specs.IdRanges.{is_in}
 use Rattle.precedence.specs.inner.Arcs.{arcs_before, codes_with, count_in}
 use Rattle.precedence.specs.inner.Rows.{is_in_rows, start_of, LieApart}
 use Rattle.precedence.specs.declared.cones.cone_rows.Row.{Row}
 use Rattle.precedence.proofs.Listed.{at_in, first_below, first_in, in_right, or_cases, tail_rises}
-use Rattle.precedence.proofs.runs.RunsOfRows.{adds_run}
-use Rattle.precedence.proofs.runs.Starts.{no_less, start_before, start_grows, start_within}
+use Rattle.precedence.proofs.ranges.RangesOfRows.{adds_range}
+use Rattle.precedence.proofs.ranges.Starts.{no_less, start_before, start_grows, start_within}
 
 -- the sum of two counts of each element
 pub sum_both : {X : Type 0} (f g h : X → ℕ) (xs : List X) → ((x : X) → f x ≡ g x + h x) → sum_by f xs ≡ sum_by g xs + sum_by h xs
@@ -31,13 +31,13 @@ sum_none f (x ∷ xs) each = omega (arith, each x, sum_none f xs each, sum_by-co
 -- the number in the rows from one on is the number in that row and in the rows after it
 pub row_more : (codes : List ℕ) (rows : List Row) (high i : ℕ) (row : Row) → IsStrictlyIncreasing codes → LieApart 0 rows high
     → i < length rows → row ≡ get_or rows i row → (from : ℕ)
-    → length (places_where (is_in_rows from (drop i rows)) 0 codes)
-    ≡ count_in codes row from + length (places_where (is_in_rows from (drop (i + 1) rows)) 0 codes)
+    → length (positions_where (is_in_rows from (drop i rows)) 0 codes)
+    ≡ count_in codes row from + length (positions_where (is_in_rows from (drop (i + 1) rows)) 0 codes)
 row_more codes rows high i row rising apart lt is from =
     let past = start_of (from + row.past) codes in
     let first = start_of (from + row.first) codes in
-    let rest = places_where (is_in_rows from (drop (i + 1) rows)) 0 codes in
-    ap length (adds_run from high rows codes apart rising i (i + 1) past row is lt (omega arith) (omega (arith, lt)) (omega arith)
+    let rest = positions_where (is_in_rows from (drop (i + 1) rows)) 0 codes in
+    ap length (adds_range from high rows codes apart rising i (i + 1) past row is lt (omega arith) (omega (arith, lt)) (omega arith)
     (λ n le less within. absurd (omega (arith, le, less))) (λ n more less. absurd (omega (arith, more, less))))
     ∙ length-append (range_with_len first (past - first)) rest
     ∙ ap (λ n. n + length rest) (length-range_with_len first (past - first))
@@ -151,9 +151,9 @@ none_in codes own row k j rise own_rises le lt empty below = ⊎_elim
     (λ there.
     let past = start_before (get_or own j 0 + row.past) id codes there (below later there) in
     omega (arith, first, past))
-    (λ behind.
+    (λ not_before.
     let few = start_within (get_or own j 0 + row.past) codes in
-    omega (arith, first, few, behind))
+    omega (arith, first, few, not_before))
     (cases_lt id (length codes)))
     (λ same.
     let here : k ≡ j = omega (arith, le, same) in

@@ -41,10 +41,10 @@ module _ (grid : Grid) (cone : Cone) (rows dz i : ℕ) (low high : Block) (up : 
       (abs_diff low.x high.x) (same_rows j) (same_rise j))
 
 -- a code next to the middle of a row, on either side
-beside : (low high middle x y west east : ℕ) → high + x ≡ (low + middle) + y → 10000 ≤ middle → west ≤ 10000
+outside : (low high middle x y west east : ℕ) → high + x ≡ (low + middle) + y → 10000 ≤ middle → west ≤ 10000
     → (nat_le (low + (middle + 1 - west)) high && nat_lt high (low + (middle + max east 1)))
     ≡ (if nat_lt x y then nat_lt (y - x) east else nat_lt (x - y) west)
-beside low high middle x y west east e far few = grind (arith, nat_tests)
+outside low high middle x y west east e far few = grind (arith, nat_tests)
 
 -- a row with these counts has exactly the codes of its blocks above
 module _ (grid : Grid) (cone : Cone) (rows dz i : ℕ) (counts : SideCounts) (counted : CountsRow grid cone rows dz i counts)
@@ -79,9 +79,9 @@ module _ (grid : Grid) (cone : Cone) (rows dz i : ℕ) (counts : SideCounts) (co
   far : 10000 ≤ center rows dz i
   far = omega arith
 
-  pub row_told : (row : Row) → row.first ≡ center rows dz i + 1 - counts.west → row.past ≡ center rows dz i + max counts.east 1
+  pub row_exact : (row : Row) → row.first ≡ center rows dz i + 1 - counts.west → row.past ≡ center rows dz i + max counts.east 1
       → is_in_row (place_code low) row (place_code high) ≡ is_above grid cone low high
-  row_told row first past =
+  row_exact row first past =
       (λ j. nat_le (place_code low + first j) (place_code high) && nat_lt (place_code high) (place_code low + past j))
-      ∙ beside (place_code low) (place_code high) (center rows dz i) low.x high.x counts.west counts.east apart_is far counted.few_west
+      ∙ outside (place_code low) (place_code high) (center rows dz i) low.x high.x counts.west counts.east apart_is far counted.few_west
       ∙ sym side_is

@@ -18,18 +18,18 @@ use Rattle.precedence.specs.Numbering.{IsNumbering}
 use Rattle.precedence.specs.inner.Seen.{placed, IsPlaced, IsSortedTable}
 use Rattle.precedence.proofs.Order.{id_is}
 use Rattle.precedence.proofs.SeenPlaces.{keys-placed, length-placed, placed_at, all_placed}
-use Rattle.precedence.proofs.runs.Starts.{count_below}
+use Rattle.precedence.proofs.ranges.Starts.{count_below}
 
-keys_moved : (listed : List Block) (entries : List (ℕ × ℕ)) → IsPermutation (placed 0 listed) entries
+keys_permuted : (listed : List Block) (entries : List (ℕ × ℕ)) → IsPermutation (placed 0 listed) entries
     → IsPermutation (place_codes listed) (keys_of entries)
-keys_moved listed entries moved = rw (← keys-placed 0 listed) (IsPermutation-map (λ e. e.0) (placed 0 listed) entries moved)
+keys_permuted listed entries permuted = rw (← keys-placed 0 listed) (IsPermutation-map (λ e. e.0) (placed 0 listed) entries permuted)
 
 -- the entries of blocks, sorted by cell, ascend strictly if no two blocks have the same cell
 pub keys_rise : (listed : List Block) (entries : List (ℕ × ℕ)) → IsPermutation (placed 0 listed) entries
     → IsNonDecreasingBy (λ e. e.0) entries → IsDistinct nat_eq (place_codes listed) → IsStrictlyIncreasing (keys_of entries)
-keys_rise listed entries moved sorted distinct = IsStrictlyIncreasing-from_distinct (keys_of entries) no_falls
+keys_rise listed entries permuted sorted distinct = IsStrictlyIncreasing-from_distinct (keys_of entries) no_falls
     (IsDistinct-IsPermutation nat_eq (λ x y. grind (arith, nat_tests)) (place_codes listed) (keys_of entries)
-    (keys_moved listed entries moved) distinct)
+    (keys_permuted listed entries permuted) distinct)
   where
     no_falls : IsNonDecreasing (keys_of entries)
     no_falls i j d le lt =
@@ -39,25 +39,25 @@ keys_rise listed entries moved sorted distinct = IsStrictlyIncreasing-from_disti
         omega (arith, sorted i j (0, 0) le (omega arith))
 
 -- the entries ascend strictly if a test finds each below the next
-pub keys_told : (entries : List (ℕ × ℕ)) (r : Bool) → IsAllAdjacentAnswer (λ e f t. t ≡ nat_lt e.0 f.0) entries r → IsTrue r
+pub keys_rise_if_sorted : (entries : List (ℕ × ℕ)) (r : Bool) → IsAllAdjacentAnswer (λ e f t. t ≡ nat_lt e.0 f.0) entries r → IsTrue r
     → IsStrictlyIncreasing (keys_of entries)
-keys_told entries false told passed k lt = absurd (false≢true passed)
-keys_told entries true told passed k lt =
+keys_rise_if_sorted entries false exact passed k lt = absurd (false≢true passed)
+keys_rise_if_sorted entries true exact passed k lt =
     let long = length-map entries (λ (e : ℕ × ℕ). e.0) in
     let low = get_or-map (λ (e : ℕ × ℕ). e.0) entries k (0, 0) 0 (omega arith) in
     let high = get_or-map (λ (e : ℕ × ℕ). e.0) entries (k + 1) (0, 0) 0 (omega arith) in
-    omega (arith, low, high, ltb-true _ _ (sym (told k (0, 0) (omega arith))))
+    omega (arith, low, high, ltb-true _ _ (sym (exact k (0, 0) (omega arith))))
 
 module _ (listed : List Block) (entries : List (ℕ × ℕ)) (table : IsSortedTable listed entries)
     (positions : List ℕ) (are : positions ≡ values_of entries) where
   as_many : length entries ≡ length listed
-  as_many = length_permutation (placed 0 listed) entries table.moved ∙ length-placed 0 listed
+  as_many = length_permutation (placed 0 listed) entries table.permuted ∙ length-placed 0 listed
 
   pub as_many_positions : length positions ≡ length listed
   as_many_positions = ap length are ∙ length-map entries (λ e. e.1) ∙ as_many
 
   each_placed : All (IsPlaced listed) entries
-  each_placed = All-permutation (IsPlaced listed) (placed 0 listed) entries table.moved (all_placed listed)
+  each_placed = All-permutation (IsPlaced listed) (placed 0 listed) entries table.permuted (all_placed listed)
 
   position_is : (k : ℕ) (e : ℕ × ℕ) → k < length listed → get_or positions k 0 ≡ (get_or entries k e).1
   position_is k e lt = ap (λ ps. get_or ps k 0) are ∙ get_or-map (λ e. e.1) entries k e 0 (omega (arith, as_many))
@@ -68,12 +68,12 @@ module _ (listed : List Block) (entries : List (ℕ × ℕ)) (table : IsSortedTa
   pub all_inside : All (λ p. p < length listed) positions
   all_inside = All-from_get_or (λ p. p < length listed) positions 0 (λ k lt. inside k (omega (arith, as_many_positions)))
 
-  module _ (blocks : List Block) (told : (d : Block) → blocks ≡ map (λ p. get_or listed p d) positions)
+  module _ (blocks : List Block) (exact : (d : Block) → blocks ≡ map (λ p. get_or listed p d) positions)
       (long : length blocks ≡ length positions) where
     -- the block at k
     block_is : (k : ℕ) (d : Block) → k < length listed → get_or blocks k d ≡ get_or listed (get_or positions k 0) d
     block_is k d lt =
-        ap (λ bs. get_or bs k d) (told d) ∙ get_or-map (λ p. get_or listed p d) positions k 0 d (omega (arith, as_many_positions))
+        ap (λ bs. get_or bs k d) (exact d) ∙ get_or-map (λ p. get_or listed p d) positions k 0 d (omega (arith, as_many_positions))
 
     code_is : (k : ℕ) (d : Block) → k < length listed → place_code (get_or blocks k d) ≡ get_or (keys_of entries) k 0
     code_is k d lt =
@@ -87,7 +87,7 @@ module _ (listed : List Block) (entries : List (ℕ × ℕ)) (table : IsSortedTa
         let c = place_code (get_or blocks k d) in
         id_is listed (get_or blocks k d)
         ∙ sym (sum_by-IsPermutation (λ key. cond (nat_lt key c) 1 0) (place_codes listed) (keys_of entries)
-        (keys_moved listed entries table.moved))
+        (keys_permuted listed entries table.permuted))
         ∙ ap (λ t. count_by (λ key. nat_lt key t) (keys_of entries)) (code_is k d lt)
         ∙ count_below (keys_of entries) k table.rising (omega (arith, length-map entries (λ (e : ℕ × ℕ). e.0), as_many))
 
@@ -99,7 +99,7 @@ module _ (listed : List Block) (entries : List (ℕ × ℕ)) (table : IsSortedTa
         let same : get_or (placed 0 listed) i e ≡ e = placed_at 0 listed i d e lt ∙ ap (λ p. (place_code (get_or listed i d), p)) first in
         let P : ℕ × ℕ → Type 0 = Contains (placed 0 listed) in
         let there = subst P same (Contains-get_or (placed 0 listed) i e (omega (arith, length-placed 0 listed))) in
-        let here = at_from_Contains entries e (Contains-permutation (placed 0 listed) entries e table.moved there) in
+        let here = at_from_Contains entries e (Contains-permutation (placed 0 listed) entries e table.permuted there) in
         let within : here.0 < length listed = omega (arith, here.1, as_many) in
         (here.0, within, position_is here.0 e within ∙ ap (λ e. e.1) (here.2 e))
 
@@ -115,7 +115,7 @@ module _ (listed : List Block) (entries : List (ℕ × ℕ)) (table : IsSortedTa
       positions = as_many_positions;
       identifiers = numbers;
       within = inside;
-      stands = λ k d lt. sym (block_is k d lt);
+      at_position = λ k d lt. sym (block_is k d lt);
       numbered = λ i d lt. omega (arith, id_at i d lt, (place_of i d lt).1);
       found = λ i d lt. ap (λ k. get_or positions k 0) (id_at i d lt) ∙ (place_of i d lt).2;
     }

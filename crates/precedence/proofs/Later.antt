@@ -8,7 +8,7 @@ use Rattle.plan_parts.specs.declared.block.Block.{Block}
 use Rattle.precedence.specs.Cone.{above, preds}
 use Rattle.precedence.specs.Identifier.{comes_before}
 use Rattle.precedence.specs.Numbering.{IsNumbering, NumberingView}
-use Rattle.precedence.proofs.LawFacts.{lies_higher}
+use Rattle.precedence.proofs.LawFacts.{preds_higher}
 use Rattle.precedence.proofs.Order.{in_order}
 
 -- a block that comes before another is on no higher bench
@@ -30,13 +30,13 @@ module _ (plan : PlanParts) (listed : List Block) (n : NumberingView) (numbering
 
   later : (d : Block) → b < c
   later d =
-      let told = lies_higher plan n.blocks b c d within has in
+      let exact = preds_higher plan n.blocks b c d within has in
       ⊎_elim
       (λ lt. lt)
       (λ le. ⊎_elim
       (λ less. absurd (no_higher (get_or n.blocks c d) (get_or n.blocks b d)
-      (in_order listed n c b d numbering less (omega (arith, within, numbering.blocks))) told.1))
-      (λ same. let here : b ≡ c = omega arith in absurd (omega (arith, told.1, ap (λ k. (get_or n.blocks k d).z) here)))
+      (in_order listed n c b d numbering less (omega (arith, within, numbering.blocks))) exact.1))
+      (λ same. let here : b ≡ c = omega arith in absurd (omega (arith, exact.1, ap (λ k. (get_or n.blocks k d).z) here)))
       (cases_lt c b))
       (cases_lt b c)
 

@@ -19,19 +19,19 @@ use Rattle.plan_parts.specs.declared.block.Block.{Block}
 use Rattle.plan_parts.specs.declared.cone.Cone.{Cone}
 use Rattle.plan_parts.specs.declared.cone.Slope.{Slope}
 use Rattle.plan_parts.specs.declared.grid.Grid.{Grid}
-use Rattle.precedence.specs.Cone.{above, is_above, is_within_slopes, places_where, preds, slope_along_x, slope_along_y, square}
+use Rattle.precedence.specs.Cone.{above, is_above, is_within_slopes, positions_where, preds, slope_along_x, slope_along_y, square}
 use Rattle.precedence.specs.ConeLaws.{above_by, even_cone, has_pred, is_above_by, is_pred_by, preds_by, IsEven}
 use Rattle.precedence.specs.Identifier.{id}
 use Rattle.precedence.specs.Numbering.{IsNumbering, NumberingView}
 use Rattle.precedence.proofs.AllLists.{all_at}
-use Rattle.precedence.proofs.PlacesWhere.{nowhere, where_at, where_filter}
+use Rattle.precedence.proofs.PositionsWhere.{nowhere, where_at, where_filter}
 
 -- ---- the slope on a side
 
 -- cones with the same slopes towards a block and the same height contain it alike
-seen_alike : (grid : Grid) (one other : Cone) (low high : Block) → slope_along_x one low high ≡ slope_along_x other low high
+seen_same_cone : (grid : Grid) (one other : Cone) (low high : Block) → slope_along_x one low high ≡ slope_along_x other low high
     → slope_along_y one low high ≡ slope_along_y other low high → one.k ≡ other.k → is_above grid one low high ≡ is_above grid other low high
-seen_alike grid one other low high along across benches =
+seen_same_cone grid one other low high along across benches =
     λ j. nat_lt low.z high.z
     && (nat_le (high.z - low.z) (benches j)
     && is_within_slopes grid (along j) (across j) (abs_diff low.x high.x) (abs_diff low.y high.y) (high.z - low.z))
@@ -54,19 +54,19 @@ second_taken m n first second other more = by_test (nat_lt m n) (grind (arith, n
 module _ (grid : Grid) (cone : Cone) (low high : Block) where
   pub east_alone : (west : Slope) → low.x < high.x → is_above grid (record cone { west = west }) low high ≡ is_above grid cone low high
   east_alone west less =
-      seen_alike grid (record cone { west = west }) cone low high (first_taken low.x high.x cone.east cone.west west less) refl refl
+      seen_same_cone grid (record cone { west = west }) cone low high (first_taken low.x high.x cone.east cone.west west less) refl refl
 
   pub west_alone : (east : Slope) → high.x < low.x → is_above grid (record cone { east = east }) low high ≡ is_above grid cone low high
   west_alone east more =
-      seen_alike grid (record cone { east = east }) cone low high (second_taken low.x high.x cone.east cone.west east more) refl refl
+      seen_same_cone grid (record cone { east = east }) cone low high (second_taken low.x high.x cone.east cone.west east more) refl refl
 
   pub north_alone : (south : Slope) → low.y < high.y → is_above grid (record cone { south = south }) low high ≡ is_above grid cone low high
   north_alone south less =
-      seen_alike grid (record cone { south = south }) cone low high refl (first_taken low.y high.y cone.north cone.south south less) refl
+      seen_same_cone grid (record cone { south = south }) cone low high refl (first_taken low.y high.y cone.north cone.south south less) refl
 
   pub south_alone : (north : Slope) → high.y < low.y → is_above grid (record cone { north = north }) low high ≡ is_above grid cone low high
   south_alone north more =
-      seen_alike grid (record cone { north = north }) cone low high refl (second_taken low.y high.y cone.north cone.south north more) refl
+      seen_same_cone grid (record cone { north = north }) cone low high refl (second_taken low.y high.y cone.north cone.south north more) refl
 
 -- ---- one slope
 
@@ -110,7 +110,7 @@ one_slope_is grid slope k low high some =
 even_above : (grid : Grid) (found : Option Cone) (blocks : List Block) (low : Block)
     → ((cone : Cone) → found ≡ Some cone → IsEven cone × (1 ≤ cone.east.q)) → above grid found blocks low ≡ above_by grid found blocks low
 even_above grid None blocks low h = refl
-even_above grid (Some cone) blocks low h = λ j. places_where (λ high. same high j) 0 blocks
+even_above grid (Some cone) blocks low h = λ j. positions_where (λ high. same high j) 0 blocks
   where
     same : (high : Block) → is_above grid cone low high ≡ is_above_by grid cone.east cone.k low high
     same high = ap (λ (c : Cone). is_above grid c low high) (h cone refl).0 ∙ one_slope_is grid cone.east cone.k low high (h cone refl).1
@@ -136,7 +136,7 @@ range_below : (n : ℕ) → All (λ k. k < n) (range_with_len 0 n)
 range_below n k d lt = let long = length-range_with_len 0 n in omega (arith, get_or-range_with_len 0 n k d (omega arith))
 
 above_where : (grid : Grid) (o : Option Cone) (blocks : List Block) (low : Block)
-    → above grid o blocks low ≡ places_where (is_pred_by grid o low) 0 blocks
+    → above grid o blocks low ≡ positions_where (is_pred_by grid o low) 0 blocks
 above_where grid None blocks low = sym (nowhere 0 blocks)
 above_where grid (Some cone) blocks low = refl
 
@@ -150,7 +150,7 @@ module _ (plan : PlanParts) (blocks : List Block) (i : ℕ) (d : Block) (lt : i 
   abbrev passes : ℕ → Bool
   passes k = is_pred (get_or blocks k d)
 
-  list_where : get_or (preds plan blocks) i [] ≡ places_where is_pred 0 blocks
+  list_where : get_or (preds plan blocks) i [] ≡ positions_where is_pred 0 blocks
   list_where =
       get_or-map (λ low. above plan.grid (slice_get plan.cones low.zone) blocks low) blocks i d [] lt
       ∙ above_where plan.grid (slice_get plan.cones low.zone) blocks low
@@ -171,9 +171,9 @@ module _ (plan : PlanParts) (blocks : List Block) (i : ℕ) (d : Block) (lt : i 
   rise_at : IsStrictlyIncreasing (get_or (preds plan blocks) i [])
   rise_at = rw list_is (IsStrictlyIncreasing-filter passes (range_with_len 0 (length blocks)) (range_rises 0 (length blocks)))
 
-pub lies_higher : (plan : PlanParts) (blocks : List Block) (i k : ℕ) (d : Block) → i < length blocks
+pub preds_higher : (plan : PlanParts) (blocks : List Block) (i k : ℕ) (d : Block) → i < length blocks
     → Contains (get_or (preds plan blocks) i []) k → (k < length blocks) × ((get_or blocks i d).z < (get_or blocks k d).z)
-lies_higher plan blocks i k d lt has =
+preds_higher plan blocks i k d lt has =
     All-contains (λ k. (k < length blocks) × ((get_or blocks i d).z < (get_or blocks k d).z)) _ k (lie_higher plan blocks i d lt) has
 
 pub lists_rise : (plan : PlanParts) (blocks : List Block) (i : ℕ) → i < length blocks
@@ -190,15 +190,15 @@ module _ (listed : List Block) (n : NumberingView) (numbering : IsNumbering list
   some_passes k d lt = ⊎_elim
       (λ passes.
       let at = get_or n.positions k 0 in
-      let stands = numbering.stands k d lt in
-      let own : (id listed (get_or listed at d) == k) ≡ true = eq-eqb _ _ (ap (id listed) stands ∙ numbering.identifiers k d lt) in
-      let good : p (get_or listed at d) ≡ true = ap p stands ∙ passes in
+      let at_position = numbering.at_position k d lt in
+      let own : (id listed (get_or listed at d) == k) ≡ true = eq-eqb _ _ (ap (id listed) at_position ∙ numbering.identifiers k d lt) in
+      let good : p (get_or listed at d) ≡ true = ap p at_position ∙ passes in
       list_any_at (λ high. (id listed high == k) && p high) listed at d (numbering.within k lt) (λ j. own j && good j) ∙ sym passes)
       (λ fails. list_any_none (λ high. (id listed high == k) && p high) listed (λ i e within. ⊎_elim
       (λ own.
       let there : get_or n.positions k 0 ≡ i = ap (λ m. get_or n.positions m 0) (sym (eqb-true _ _ own)) ∙ numbering.found i e within in
       let same : get_or listed i e ≡ get_or n.blocks k d =
-      get_or_default listed i e d within ∙ ap (λ m. get_or listed m d) (sym there) ∙ numbering.stands k d lt in
+      get_or_default listed i e d within ∙ ap (λ m. get_or listed m d) (sym there) ∙ numbering.at_position k d lt in
       ap (λ b. (id listed (get_or listed i e) == k) && b) (ap p same ∙ fails) ∙ and-false (id listed (get_or listed i e) == k))
       (λ other. ap (λ b. b && p (get_or listed i e)) other)
       (cases_Bool (id listed (get_or listed i e) == k))) ∙ sym fails)

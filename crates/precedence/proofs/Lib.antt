@@ -1,6 +1,5 @@
 pub mod AllLists
 pub mod Arcs
-pub mod CountedLists
 pub mod Geometry
 pub mod Identifiers
 pub mod Later
@@ -9,10 +8,10 @@ pub mod Listed
 pub mod Members
 pub mod Order
 pub mod Pieces
-pub mod PlacesWhere
+pub mod PositionsWhere
 pub mod Reaches
 pub mod SeenPlaces
 pub mod Tables
 pub mod bits
 pub mod closed
-pub mod runs
+pub mod ranges

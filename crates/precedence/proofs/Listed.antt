@@ -7,12 +7,12 @@ use Rattle.std.proofs.lemmas.Bool.Decides.{nat_tests}
 use Rattle.std.proofs.lemmas.List.{get_or_append_left, get_or_at, length-append}
 use Rattle.std.proofs.lemmas.List.Folds.{list_any_at, list_any-append}
 use Rattle.std.proofs.lemmas.List.Kept.{IsStrictlyIncreasing-filter}
-use Rattle.precedence.specs.IdRuns.{is_in}
-use Rattle.precedence.specs.inner.Lists.{lying}
+use Rattle.precedence.specs.IdRanges.{is_in}
+use Rattle.precedence.specs.inner.Lists.{ids_in_rows}
 use Rattle.precedence.specs.inner.Rows.{is_in_rows}
 use Rattle.precedence.specs.declared.cones.cone_rows.Row.{Row}
 use Rattle.precedence.proofs.LawFacts.{range_rises}
-use Rattle.precedence.proofs.PlacesWhere.{told_nowhere, where_at}
+use Rattle.precedence.proofs.PositionsWhere.{exact_nowhere, where_at}
 
 -- ---- members of a list
 
@@ -82,13 +82,13 @@ rising_push xs y rising below k lt =
 
 -- ---- codes in rows
 
-pub lying_within : (from : ℕ) (rows : List Row) (codes : List ℕ) (x : ℕ) → is_in (lying from rows codes) x ≡ true → x < length codes
-lying_within from rows codes x h = ⊎_elim
+pub ids_in_rows_within : (from : ℕ) (rows : List Row) (codes : List ℕ) (x : ℕ) → is_in (ids_in_rows from rows codes) x ≡ true → x < length codes
+ids_in_rows_within from rows codes x h = ⊎_elim
     (λ lt. lt)
-    (λ past. absurd (let none = told_nowhere (is_in_rows from rows) x codes past in let no : ⊥ = cc in no))
+    (λ past. absurd (let none = exact_nowhere (is_in_rows from rows) x codes past in let no : ⊥ = cc in no))
     (cases_lt x (length codes))
 
-pub lying_rises : (from : ℕ) (rows : List Row) (codes : List ℕ) → IsStrictlyIncreasing (lying from rows codes)
-lying_rises from rows codes =
+pub ids_in_rows_rise : (from : ℕ) (rows : List Row) (codes : List ℕ) → IsStrictlyIncreasing (ids_in_rows from rows codes)
+ids_in_rows_rise from rows codes =
     rw (where_at (is_in_rows from rows) 0 codes)
     (IsStrictlyIncreasing-filter (λ k. is_in_rows from rows (get_or codes k 0)) (range_with_len 0 (length codes)) (range_rises 0 (length codes)))

@@ -5,7 +5,7 @@ use Rattle.std.proofs.lemmas.Bool.{cases_Bool, cases_lt, eq-eqb, eqb-true}
 use Rattle.std.proofs.lemmas.List.{get_or_past}
 use Rattle.std.proofs.lemmas.List.Folds.{list_any_at}
 use Rattle.precedence.specs.Closed.{HasArc}
-use Rattle.precedence.specs.IdRuns.{is_in}
+use Rattle.precedence.specs.IdRanges.{is_in}
 use Rattle.precedence.proofs.Listed.{first_below, first_in, in_right, or_cases, tail_rises}
 
 pub tail_in : (x : ℕ) (xs : List ℕ) (c : ℕ) → Contains xs c → Contains (x ∷ xs) c
@@ -34,8 +34,8 @@ same_rising (x ∷ xs) (y ∷ ys) rx ry to back =
     let up = at_least x xs y rx (back y (first_in y ys)) in
     let same : x ≡ y = omega (arith, low, up) in
     let rest : xs ≡ ys = same_rising xs ys (tail_rises x xs rx) (tail_rises y ys ry)
-    (λ c h. behind y ys c (to c (in_right (x ∷ []) xs c h)) (let less = first_below x xs c rx h in omega (arith, less, same)))
-    (λ c h. behind x xs c (back c (in_right (y ∷ []) ys c h)) (let less = first_below y ys c ry h in omega (arith, less, same))) in
+    (λ c h. after y ys c (to c (in_right (x ∷ []) xs c h)) (let less = first_below x xs c rx h in omega (arith, less, same)))
+    (λ c h. after x xs c (back c (in_right (y ∷ []) ys c h)) (let less = first_below y ys c ry h in omega (arith, less, same))) in
     λ j. same j ∷ rest j
   where
     at_least : (y : ℕ) (ys : List ℕ) (c : ℕ) → IsStrictlyIncreasing (y ∷ ys) → is_in (y ∷ ys) c ≡ true → y ≤ c
@@ -44,8 +44,8 @@ same_rising (x ∷ xs) (y ∷ ys) rx ry to back =
         (λ later. omega (arith, first_below y ys c rising later))
         (or_cases (y == c) (is_in ys c) h)
 
-    behind : (y : ℕ) (ys : List ℕ) (c : ℕ) → is_in (y ∷ ys) c ≡ true → y < c → is_in ys c ≡ true
-    behind y ys c h less = ⊎_elim
+    after : (y : ℕ) (ys : List ℕ) (c : ℕ) → is_in (y ∷ ys) c ≡ true → y < c → is_in ys c ≡ true
+    after y ys c h less = ⊎_elim
         (λ is. absurd (omega (arith, less, eqb-true _ _ is)))
         (λ later. later)
         (or_cases (y == c) (is_in ys c) h)

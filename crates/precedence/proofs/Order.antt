@@ -5,13 +5,13 @@ use Rattle.std.proofs.lemmas.Bool.Decides.{nat_tests}
 use Rattle.std.proofs.lemmas.List.Sums.{sum_by-cons, sum_by-le-sum_by}
 use Rattle.plan_parts.specs.declared.block.Block.{Block}
 use Rattle.precedence.specs.Codes.{place_code, place_codes}
-use Rattle.precedence.specs.Identifier.{comes_before, id, is_same_place}
+use Rattle.precedence.specs.Identifier.{comes_before, id, is_same_cell}
 use Rattle.precedence.specs.Numbering.{IsNumbering, NumberingView}
 
 before_is : (a b : Block) → comes_before a b ≡ nat_lt (place_code a) (place_code b)
 before_is a b = grind (arith, nat_tests)
 
-pub same_is : (a b : Block) → is_same_place a b ≡ nat_eq (place_code a) (place_code b)
+pub same_is : (a b : Block) → is_same_cell a b ≡ nat_eq (place_code a) (place_code b)
 same_is a b = grind (arith, nat_tests)
 
 -- an identifier is the number of smaller codes

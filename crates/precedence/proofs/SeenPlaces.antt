@@ -11,10 +11,10 @@ use Rattle.std.proofs.lemmas.Map.Views.{Contains-from_lookup}
 use Rattle.indexmap.proofs.CallerLemmas.{insert_entry-new}
 use Rattle.plan_parts.specs.declared.block.Block.{Block}
 use Rattle.precedence.specs.Codes.{place_code, place_codes}
-use Rattle.precedence.specs.Identifier.{IsFirstAgain, is_same_place}
+use Rattle.precedence.specs.Identifier.{IsFirstAgain, is_same_cell}
 use Rattle.precedence.specs.inner.Seen.{placed, with_place, IsPlaced}
 use Rattle.precedence.proofs.Order.{same_is}
-use Rattle.precedence.proofs.PlacesWhere.{numbered_more}
+use Rattle.precedence.proofs.PositionsWhere.{numbered_more}
 
 pub length-placed : (n : ℕ) (bs : List Block) → length (placed n bs) ≡ length bs
 length-placed n bs = length-map (enumerate_from n bs) with_place ∙ length-enumerate_from n bs
@@ -42,7 +42,7 @@ all_placed (b ∷ bs) k e lt =
 
 -- blocks whose table has no cell twice are in different cells
 pub apart : (bs : List Block) (i j : ℕ) (d : Block) → IsDistinct nat_eq (keys_of (placed 0 bs)) → i < j → j < length bs
-    → is_same_place (get_or bs i d) (get_or bs j d) ≡ false
+    → is_same_cell (get_or bs i d) (get_or bs j d) ≡ false
 apart bs i j d distinct lt within =
     let long = length-map bs place_code in
     let code : (k : ℕ) → k < length bs → place_code (get_or bs k d) ≡ get_or (place_codes bs) k 0 =

@@ -9,12 +9,12 @@ use Rattle.plan_parts.specs.declared.grid.Grid.{Grid}
 use Rattle.precedence.specs.Codes.{place_code}
 use Rattle.precedence.specs.Cone.{is_above}
 use Rattle.precedence.specs.inner.Reach.{CountsRow}
-use Rattle.precedence.specs.inner.Rows.{center, edge, is_in_row, is_in_rows, LieApart, IsWithin, Tells, IsTable}
+use Rattle.precedence.specs.inner.Rows.{center, edge, is_in_row, is_in_rows, LieApart, IsWithin, AreExactUpTo, IsTable}
 use Rattle.precedence.specs.inner.ZoneTables.{IsWider}
 use Rattle.precedence.specs.declared.cones.cone_rows.Extent.{Extent}
 use Rattle.precedence.specs.declared.cones.cone_rows.SideCounts.{SideCounts}
 use Rattle.precedence.specs.declared.cones.cone_rows.Row.{Row}
-use Rattle.precedence.proofs.Geometry.{IsAt, row_told}
+use Rattle.precedence.proofs.Geometry.{IsAt, row_exact}
 
 -- ---- rows at the end
 
@@ -68,10 +68,10 @@ module _ (extent : Extent) (low high : Block) (near : IsWithin extent low high) 
 between : (high low edge next first past : ℕ) (above : Bool) → edge ≤ first → past ≤ next → first ≤ past
     → (low + edge ≤ high → high < low + next → (nat_le (low + first) high && nat_lt high (low + past)) ≡ above)
     → ((nat_lt high (low + edge) && above) || (nat_le (low + first) high && nat_lt high (low + past))) ≡ (nat_lt high (low + next) && above)
-between high low edge next first past above begin end order told = ⊎_elim
+between high low edge next first past above begin end order exact = ⊎_elim
     (λ before. grind (arith, nat_tests, or-false))
     (λ after. ⊎_elim
-    (λ inside. let told_here = told after inside in grind (arith, nat_tests))
+    (λ inside. let exact_here = exact after inside in grind (arith, nat_tests))
     (λ beyond. grind (arith, nat_tests, and-false))
     (cases_lt high (low + next)))
     (cases_lt high (low + edge))
@@ -93,28 +93,28 @@ module _ (grid : Grid) (cone : Cone) (extent : Extent) (dz i : ℕ) (up : 1 ≤ 
   row_adds low high near =
       between (place_code high) (place_code low) (edge extent.rows dz i) (edge extent.rows dz (i + 1)) row.first row.past
       (is_above grid cone low high) after_edge before_edge row.in_order (λ after before.
-      row_told grid cone extent.rows dz i counts counted low high up within extent.few_rows
+      row_exact grid cone extent.rows dz i counts counted low high up within extent.few_rows
       (at_row extent low high near dz i up inside after before) row first past)
 
-  pub tells_row : row.first < row.past → (rows : List Row) → Tells grid cone extent (edge extent.rows dz i) rows
-      → Tells grid cone extent (edge extent.rows dz (i + 1)) (rows ++ row ∷ [])
-  tells_row some rows h = record {
+  pub exact_with_row : row.first < row.past → (rows : List Row) → AreExactUpTo grid cone extent (edge extent.rows dz i) rows
+      → AreExactUpTo grid cone extent (edge extent.rows dz (i + 1)) (rows ++ row ∷ [])
+  exact_with_row some rows h = record {
     apart = apart_push 0 rows (edge extent.rows dz i) row (edge extent.rows dz (i + 1)) h.apart after_edge some before_edge;
-    told = λ low high near.
+    exact = λ low high near.
         in_rows_push (place_code low) rows row (place_code high)
-        ∙ ap (λ b. b || is_in_row (place_code low) row (place_code high)) (h.told low high near)
+        ∙ ap (λ b. b || is_in_row (place_code low) row (place_code high)) (h.exact low high near)
         ∙ row_adds low high near;
   }
 
   -- a row with no codes adds nothing
-  pub tells_no_row : row.past ≤ row.first → (rows : List Row) → Tells grid cone extent (edge extent.rows dz i) rows
-      → Tells grid cone extent (edge extent.rows dz (i + 1)) rows
-  tells_no_row empty rows h = record {
+  pub exact_without_row : row.past ≤ row.first → (rows : List Row) → AreExactUpTo grid cone extent (edge extent.rows dz i) rows
+      → AreExactUpTo grid cone extent (edge extent.rows dz (i + 1)) rows
+  exact_without_row empty rows h = record {
     apart = apart_more 0 rows (edge extent.rows dz i) (edge extent.rows dz (i + 1)) h.apart
         (omega (arith, after_edge, before_edge, row.in_order));
-    told = λ low high near.
+    exact = λ low high near.
         let none : is_in_row (place_code low) row (place_code high) ≡ false = grind (arith, nat_tests, empty) in
-        h.told low high near
+        h.exact low high near
         ∙ sym (or-false (nat_lt (place_code high) (place_code low + edge extent.rows dz i) && is_above grid cone low high))
         ∙ ap (λ b. (nat_lt (place_code high) (place_code low + edge extent.rows dz i) && is_above grid cone low high) || b) (sym none)
         ∙ row_adds low high near;
@@ -134,19 +134,19 @@ never true false h = refl
 never false q h = refl
 
 module _ (grid : Grid) (cone : Cone) (extent : Extent) where
-  pub tells_none : Tells grid cone extent (edge extent.rows 1 0) []
-  tells_none = record {
+  pub exact_without_rows : AreExactUpTo grid cone extent (edge extent.rows 1 0) []
+  exact_without_rows = record {
     apart = omega arith;
-    told = λ low high near. sym (never _ _ (λ lies.
+    exact = λ low high near. sym (never _ _ (λ lies.
         le-ltb _ _ (past_first extent low high near (ltb-true low.z high.z (and_parts (nat_lt low.z high.z) _ lies).0))));
   }
 
-  pub tells_bench : (dz : ℕ) (rows : List Row) → Tells grid cone extent (edge extent.rows dz (2 * extent.rows + 1)) rows
-      → Tells grid cone extent (edge extent.rows (dz + 1) 0) rows
-  tells_bench dz rows h = record {
+  pub exact_after_bench : (dz : ℕ) (rows : List Row) → AreExactUpTo grid cone extent (edge extent.rows dz (2 * extent.rows + 1)) rows
+      → AreExactUpTo grid cone extent (edge extent.rows (dz + 1) 0) rows
+  exact_after_bench dz rows h = record {
     apart = apart_more 0 rows (edge extent.rows dz (2 * extent.rows + 1)) (edge extent.rows (dz + 1) 0) h.apart
         (omega arith);
-    told = λ low high near. h.told low high near ∙ ap (λ b. b && is_above grid cone low high) (between_benches extent low high near dz);
+    exact = λ low high near. h.exact low high near ∙ ap (λ b. b && is_above grid cone low high) (between_benches extent low high near dz);
   }
 
   -- a block above is on one of the benches
@@ -163,17 +163,17 @@ module _ (grid : Grid) (cone : Cone) (extent : Extent) where
   narrower other rows wide h = record {
     high = h.high;
     apart = h.apart;
-    told = λ low high near. h.told low high (record {
+    exact = λ low high near. h.exact low high (record {
       rows = omega (arith, near.rows, wide.rows);
       benches = omega (arith, near.benches, wide.benches);
     });
   }
 
-  pub is_table : (top : ℕ) (rows : List Row) → top ≡ min cone.k extent.benches → Tells grid cone extent (edge extent.rows (top + 1) 0) rows
+  pub is_table : (top : ℕ) (rows : List Row) → top ≡ min cone.k extent.benches → AreExactUpTo grid cone extent (edge extent.rows (top + 1) 0) rows
       → IsTable grid cone extent rows
   is_table top rows e h = record {
     high = edge extent.rows (top + 1) 0;
     apart = h.apart;
-    told = λ low high near. h.told low high near ∙ always _ _ (λ lies.
+    exact = λ low high near. h.exact low high near ∙ always _ _ (λ lies.
         lt-ltb _ _ (before_last extent low high near top (omega (arith, high_enough low high near lies))));
   }

@@ -32,13 +32,13 @@ is_above grid cone low high =
     && is_within_slopes grid (slope_along_x cone low high) (slope_along_y cone low high) (abs_diff low.x high.x) (abs_diff low.y high.y) (high.z - low.z))
 
 -- the positions of the elements that pass the test, counted from n
-abbrev pub places_where : {X : Type 0} → (X → Bool) → ℕ → List X → List ℕ
-places_where test n [] = []
-places_where test n (x ∷ xs) = if test x then n ∷ places_where test (n + 1) xs else places_where test (n + 1) xs
+abbrev pub positions_where : {X : Type 0} → (X → Bool) → ℕ → List X → List ℕ
+positions_where test n [] = []
+positions_where test n (x ∷ xs) = if test x then n ∷ positions_where test (n + 1) xs else positions_where test (n + 1) xs
 
 -- the identifiers of the blocks in the cone above a block, in ascending order. `blocks` is ordered by identifier
 abbrev pub above : Grid → Option Cone → List Block → Block → List ℕ
-above grid (Some cone) blocks low = places_where (is_above grid cone low) 0 blocks
+above grid (Some cone) blocks low = positions_where (is_above grid cone low) 0 blocks
 above grid None blocks low = []
 
 -- the predecessors of each block, by the cone of the block's own zone

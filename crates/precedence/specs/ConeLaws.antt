@@ -7,7 +7,7 @@ use Rattle.plan_parts.specs.declared.block.Block.{Block}
 use Rattle.plan_parts.specs.declared.cone.Cone.{Cone}
 use Rattle.plan_parts.specs.declared.cone.Slope.{Slope}
 use Rattle.plan_parts.specs.declared.grid.Grid.{Grid}
-use Rattle.precedence.specs.Cone.{is_above, places_where, square}
+use Rattle.precedence.specs.Cone.{is_above, positions_where, square}
 use Rattle.precedence.specs.Identifier.{id}
 
 -- a cone with one slope on all sides
@@ -29,7 +29,7 @@ IsEven cone = cone ≡ even_cone cone.east cone.k
 
 -- the identifiers of the blocks above a block by the one-slope test
 abbrev pub above_by : Grid → Option Cone → List Block → Block → List ℕ
-above_by grid (Some cone) blocks low = places_where (is_above_by grid cone.east cone.k low) 0 blocks
+above_by grid (Some cone) blocks low = positions_where (is_above_by grid cone.east cone.k low) 0 blocks
 above_by grid None blocks low = []
 
 -- the predecessors of each block by identifier, by the one-slope test

@@ -1,4 +1,4 @@
--- The identifiers of listed blocks: the number of blocks of the whole list that come before, ordered by bench, then from south to north,
+-- The identifiers of listed blocks: the number of blocks of the complete list that come before, ordered by bench, then from south to north,
 -- then from west to east.
 use Rattle.std.specs.Prelude.{◌≡◌, ℕ, ◌<◌, ◌==◌, ◌&&◌, ◌||◌, Bool, true, false, List, length, map, count_by, nat_lt, slice_index_or}
 use Rattle.plan_parts.specs.declared.block.Block.{Block}
@@ -17,12 +17,12 @@ abbrev pub id : List Block → Block → ℕ
 id listed b = count_by (λ a. comes_before a b) listed
 
 -- both are in the same cell of the grid
-abbrev pub is_same_place : Block → Block → Bool
-is_same_place a b = (a.x == b.x) && (a.y == b.y) && (a.z == b.z)
+abbrev pub is_same_cell : Block → Block → Bool
+is_same_cell a b = (a.x == b.x) && (a.y == b.y) && (a.z == b.z)
 
 -- `again` is the first position whose cell is the cell of an earlier position, and `first` is that earlier position
 pub record IsFirstAgain (listed : List Block) (first again : ℕ) : Type 0 where
   pub before : first < again
   pub within : again < length listed
-  pub same : (d : Block) → is_same_place (slice_index_or listed first d) (slice_index_or listed again d) ≡ true
-  pub none_before : (i j : ℕ) (d : Block) → i < j → j < again → is_same_place (slice_index_or listed i d) (slice_index_or listed j d) ≡ false
+  pub same : (d : Block) → is_same_cell (slice_index_or listed first d) (slice_index_or listed again d) ≡ true
+  pub none_before : (i j : ℕ) (d : Block) → i < j → j < again → is_same_cell (slice_index_or listed i d) (slice_index_or listed j d) ≡ false

@@ -1,11 +1,11 @@
-pub mod Behind
 pub mod Closed
 pub mod Codes
 pub mod Cone
 pub mod ConeLaws
-pub mod IdRuns
+pub mod IdRanges
 pub mod Identifier
 pub mod Numbering
+pub mod PredecessorOfAny
 pub mod SameBlock
 pub mod Zones
 pub mod inner

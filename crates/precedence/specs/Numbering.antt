@@ -16,7 +16,7 @@ pub record IsNumbering (listed : List Block) (n : NumberingView) : Type 0 where
   pub identifiers : (k : ℕ) (d : Block) → k < length listed → id listed (slice_index_or n.blocks k d) ≡ k
   -- and is in the list at the position at k
   pub within : (k : ℕ) → k < length listed → slice_index n.positions k < length listed
-  pub stands : (k : ℕ) (d : Block) → k < length listed → slice_index_or listed (slice_index n.positions k) d ≡ slice_index_or n.blocks k d
+  pub at_position : (k : ℕ) (d : Block) → k < length listed → slice_index_or listed (slice_index n.positions k) d ≡ slice_index_or n.blocks k d
   -- each block of the list has an identifier below their number, and the position at that identifier is its own
   pub numbered : (i : ℕ) (d : Block) → i < length listed → id listed (slice_index_or listed i d) < length listed
   pub found : (i : ℕ) (d : Block) → i < length listed → slice_index n.positions (id listed (slice_index_or listed i d)) ≡ i

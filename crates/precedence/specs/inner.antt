@@ -1,14 +1,14 @@
-pub mod Alike
 pub mod Arcs
-pub mod Beside
 pub mod Between
-pub mod FoundFields
+pub mod LazyPredsFields
 pub mod Lists
 pub mod NumberingFields
+pub mod Outside
 pub mod PredsFields
 pub mod Reach
 pub mod Rows
 pub mod RowsOnce
+pub mod SameCone
 pub mod Seen
 pub mod ZoneTables
 pub mod lanes

@@ -51,7 +51,7 @@ pub fn even_zones()
 {}
 
 /// Guarantees that every predecessor is a block of the model on a higher bench. So no block waits for itself, even through other blocks.
-pub fn preds_lie_higher()
+pub fn preds_are_higher()
     ensures { (plan : PlanParts) (blocks : List Block) (i k : ℕ) (d : Block) → i < length blocks
         → Contains (slice_index_or (preds plan blocks) i []) k
         → (k < length blocks) × ((slice_index_or blocks i d).z < (slice_index_or blocks k d).z) }

@@ -8,14 +8,12 @@ mod lists;
 mod numbering;
 mod places;
 
-pub use lists::counted_preds::CountedPreds;
-pub use lists::found_preds::{FoundPreds, preds};
-pub use lists::id_run::IdRun;
-pub use lists::ids_as_runs::add_runs_of_ids;
-pub use lists::made_lists::{LentLists, MadeLists};
+pub use lists::id_range::IdRange;
+pub use lists::ids_as_ranges::add_ranges_of_ids;
+pub use lists::lazy_preds::{LazyPreds, preds};
+pub use lists::made_lists::MadeLists;
 pub use lists::pred_lists::PredLists;
 pub use lists::predecessors::Preds;
-pub use lists::take_preds::TakePreds;
 pub use numbering::Numbering;
 pub use numbering::listed_blocks::ListedBlocks;
 pub use numbering::number_by_place::number_blocks;

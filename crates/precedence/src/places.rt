@@ -3,7 +3,7 @@
 ghost use Rattle.std.specs.Prelude.{◌≡◌, ◌<◌, ◌≤◌, All, IfOk, length, map};
 ghost use Rattle.std.specs.List.Sorted.{IsStrictlyIncreasing};
 ghost use Rattle.precedence.specs.Codes.{place_code, place_codes};
-ghost use Rattle.precedence.specs.inner.Beside.{AreColumns};
+ghost use Rattle.precedence.specs.inner.Outside.{AreColumns};
 ghost use Rattle.precedence.specs.declared.places.code.TheConstants.{CODES};
 ghost use Rattle.plan_parts.specs.declared.ranges.TheConstants.{MAX_BLOCKS};
 

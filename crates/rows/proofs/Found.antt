@@ -9,15 +9,15 @@ use Rattle.std.proofs.lemmas.Option.{slice_get_read}
 abbrev IsFound : {A B : Type 0} → (A → Option B) → A → Type 0
 IsFound f x = is_some (f x) ≡ true
 
-length-found : {A B : Type 0} (f : A → Option B) (x : A) (found : Option B) (rest : List B) → is_some found ≡ true
+length-lazy : {A B : Type 0} (f : A → Option B) (x : A) (found : Option B) (rest : List B) → is_some found ≡ true
     → length (cons_option found rest) ≡ suc (length rest)
-length-found f x None rest is = absurd (false≢true is)
-length-found f x (Some y) rest is = refl
+length-lazy f x None rest is = absurd (false≢true is)
+length-lazy f x (Some y) rest is = refl
 
 pub all_found : {A B : Type 0} (f : A → Option B) (xs : List A) → All (IsFound f) xs → length (filter_map f xs) ≡ length xs
 all_found f [] all = refl
 all_found f (x ∷ xs) all =
-    length-found f x (f x) (filter_map f xs) (all 0 x (omega arith))
+    length-lazy f x (f x) (filter_map f xs) (all 0 x (omega arith))
     ∙ ap suc (all_found f xs (All-tail (IsFound f) x xs all))
 
 first_found : {B : Type 0} (found : Option B) (rest : List B) → is_some found ≡ true → slice_get (cons_option found rest) zero ≡ found

@@ -4,7 +4,7 @@ use Rattle.std.specs.Prelude.{MatchResult}
 use Rattle.devices.specs.sinks.SinkState.{SinkState, IsCutOff, IsWritten}
 use Rattle.devices.specs.sinks.SinkSteps.{refusals}
 use Rattle.devices.specs.declared.sinks.sink.SinkFault.{SinkFault}
-use Rattle.fewer_arcs.specs.Fewer.{fewer}
+use Rattle.fewer_arcs.specs.Reduced.{reduced}
 use Rattle.mine_instance.specs.Instance.{Instance}
 use Rattle.minelib_writing.specs.Written.{text_prec, text_preds}
 use Rattle.refusals.specs.declared.refusal.Refusal.{Refusal}
@@ -26,6 +26,6 @@ module _ (text : List ℕ) (old new : SinkState) where
   sink_err (Err (write.Fault fault)) why cut e = inl (cc, cut)
   sink_err (Err write.OutOfMemory) why cut e = inr (cc, cut)
 
-pub thin_is : (i : Instance) (lists : List (List ℕ)) → lists ≡ fewer i.preds → text_preds lists ≡ thin_text i
+pub thin_is : (i : Instance) (lists : List (List ℕ)) → lists ≡ reduced i.preds → text_preds lists ≡ thin_text i
 unfolding text_prec
 thin_is i lists e = ap text_preds e

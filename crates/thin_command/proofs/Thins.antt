@@ -1,6 +1,6 @@
 -- The reasons for a failure: a file could not be opened; or the run on the files failed; or the sink was cut off; or memory for the line
 -- of the counts was refused.
-use Rattle.std.proofs.Common.{◌≡◌, ◌+◌, ℕ, List, Option, inl, inr, length, subst}
+use Rattle.std.proofs.Common.{◌≡◌, ◌↔◌, ◌+◌, ℕ, List, Option, inl, inr, length, subst}
 use Rattle.devices.specs.feeds.FeedState.{FeedState, all_remaining}
 use Rattle.devices.specs.sinks.SinkState.{SinkState, IsWritten}
 use Rattle.mine_instance.specs.Instance.{Instance}
@@ -21,11 +21,11 @@ use Rattle.thin_command.specs.Thin.{IsNotThinned, IsRead, IsStopped, thin_text}
 
 module _ (inputs : Inputs) (old new : RunState SinkState) where
   -- the instance compiled from the opened files
-  pub was_read : (lefts : List (Option (List ℕ))) (c : Compiled) → AreOpened old.opened new.opened inputs.zones lefts
-      → IsCompiled inputs.plan lefts inputs.settings.valuers inputs.settings.capacity c
-      → AreSpent (inputs.settings.valuers + length lefts) new.starts → IsRead inputs old new c.instance
-  was_read lefts c opened compiled spent = record {
-    lefts = lefts;
+  pub was_read : (remainders : List (Option (List ℕ))) (c : Compiled) → AreOpened old.opened new.opened inputs.zones remainders
+      → IsCompiled inputs.plan remainders inputs.settings.valuers inputs.settings.capacity c
+      → AreSpent (inputs.settings.valuers + length remainders) new.starts → IsRead inputs old new c.instance
+  was_read remainders c opened compiled spent = record {
+    remainders = remainders;
     texts = compiled.texts;
     opened = opened;
     given = compiled.given;
@@ -43,18 +43,19 @@ module _ (inputs : Inputs) (old new : RunState SinkState) where
 
     pub refused_run : (feeds : List F) (refusal : Refusal) (why : Refused)
         → AreOpened old.opened new.opened inputs.zones (all_remaining state feeds) → why ≡ Run refusal
-        → ((kind : SettingsFault) → refusal ≡ Settings kind
-        → IsSettingsFault inputs.plan (length (all_remaining state feeds)) inputs.formulas inputs.settings kind)
+        → ((kind : SettingsFault)
+        → (refusal ≡ Settings kind) ↔ IsSettingsFault inputs.plan (length (all_remaining state feeds)) inputs.formulas inputs.settings kind)
         → IsNotCompiled inputs.plan (all_remaining state feeds) (HasFailed state feeds) refusal
         → AreStartsOf (inputs.settings.valuers + length (all_remaining state feeds)) old.starts new.starts refusal → new.sinks ≡ old.sinks
         → IsNotThinned inputs old new state why
-    refused_run feeds refusal why opened e faulty refused starts still = inr (inl (
+    refused_run feeds refusal why opened e invalid refused starts still = inr (inl (
       refusal,
       e,
       record {
         feeds = feeds;
         opened = opened;
-        faulty = λ kind is. subst (λ n. IsSettingsFault inputs.plan n inputs.formulas inputs.settings kind) opened.each (faulty kind is);
+        invalid = λ kind. subst (λ n. (refusal ≡ Settings kind) ↔ IsSettingsFault inputs.plan n inputs.formulas inputs.settings kind)
+            opened.each (invalid kind);
         refused = refused;
         starts = subst (λ n. AreStartsOf (inputs.settings.valuers + n) old.starts new.starts refusal) opened.each starts;
         still = still;

@@ -6,4 +6,4 @@ use Rattle.thin_command.specs.declared.counts.ThinCounts.{ThinCounts}
 -- `rows N arcs M of L`
 abbrev pub counts_words : ThinCounts → List ℕ
 counts_words counts =
-    codes "rows " ++ (decimal counts.rows ++ (codes " arcs " ++ (decimal counts.left ++ (codes " of " ++ decimal counts.whole))))
+    codes "rows " ++ (decimal counts.rows ++ (codes " arcs " ++ (decimal counts.retained ++ (codes " of " ++ decimal counts.all))))

@@ -1,8 +1,8 @@
 -- The results of pitc_thin: it opens zone files, writes the reduced lists of their instance, and prints the counts.
-use Rattle.std.specs.Prelude.{◌≡◌, ℕ, ◌+◌, ◌⊎◌, List, [], ◌∷◌, ◌++◌, length, sum_by, Option}
+use Rattle.std.specs.Prelude.{◌≡◌, ◌↔◌, ℕ, ◌+◌, ◌⊎◌, List, [], ◌∷◌, ◌++◌, length, sum_by, Option}
 use Rattle.devices.specs.feeds.FeedState.{FeedState, all_remaining}
 use Rattle.devices.specs.sinks.SinkState.{SinkState, IsWritten, IsCutOff}
-use Rattle.fewer_arcs.specs.Fewer.{fewer}
+use Rattle.fewer_arcs.specs.Reduced.{reduced}
 use Rattle.lane.specs.Whole.{GatheredView}
 use Rattle.mine_instance.specs.Instance.{Instance}
 use Rattle.minelib_writing.specs.Written.{text_prec}
@@ -26,11 +26,11 @@ use Rattle.thin_command.specs.declared.counts.ThinCounts.{ThinCounts}
 
 -- the precedence file of an instance with the reduced list of each block
 abbrev pub thin_text : Instance → List ℕ
-thin_text i = text_prec (record i { preds = fewer i.preds })
+thin_text i = text_prec (record i { preds = reduced i.preds })
 
 -- the numbers of blocks, retained arcs and all arcs
 abbrev pub counts_of : Instance → ThinCounts
-counts_of i = record { rows = length i.blocks; left = sum_by length (fewer i.preds); whole = sum_by length i.preds }
+counts_of i = record { rows = length i.blocks; retained = sum_by length (reduced i.preds); all = sum_by length i.preds }
 
 -- the sink was cut off: it failed, or memory was refused
 abbrev pub IsStopped : List ℕ → (old new : SinkState) → Refusal → Type 0
@@ -42,10 +42,10 @@ module _ (inputs : Inputs) (old new : RunState SinkState) where
   -- the zone files were opened in this order, and no other; they are accepted, they went through a lane of this capacity, and this is
   -- their instance; a thread ran for each valuer and file
   pub record IsRead (i : Instance) : Type 0 where
-    pub lefts : List (Option (List ℕ))
+    pub remainders : List (Option (List ℕ))
     pub texts : List (List ℕ)
-    pub opened : AreOpened old.opened new.opened inputs.zones lefts
-    pub given : AreGiven lefts texts
+    pub opened : AreOpened old.opened new.opened inputs.zones remainders
+    pub given : AreGiven remainders texts
     pub accepted : IsAccepted inputs.plan texts
     pub gathered : GatheredView
     pub passed : HasPassed inputs.plan texts inputs.settings.valuers inputs.settings.capacity gathered
@@ -58,8 +58,8 @@ module _ (inputs : Inputs) (old new : RunState SinkState) where
     pub written : IsWritten (thin_text i) old.sinks new.sinks
 
   -- the sink holds the reduced lists, and the line of their counts was appended
-  abbrev pub TellsThinned : (text_old text_new : List ℕ) → Type 0
-  TellsThinned text_old text_new = (i : Instance) × IsThinned i × (text_new ≡ text_old ++ (counts_words (counts_of i) ++ 10 ∷ []))
+  abbrev pub ReportsThinned : (text_old text_new : List ℕ) → Type 0
+  ReportsThinned text_old text_new = (i : Instance) × IsThinned i × (text_new ≡ text_old ++ (counts_words (counts_of i) ++ 10 ∷ []))
 
   -- by the states of feeds
   module _ {F : Type 0} (state : F → FeedState) where
@@ -68,8 +68,8 @@ module _ (inputs : Inputs) (old new : RunState SinkState) where
     pub record IsRunRefused (why : Refusal) : Type 0 where
       pub feeds : List F
       pub opened : AreOpened old.opened new.opened inputs.zones (all_remaining state feeds)
-      pub faulty : (kind : SettingsFault) → why ≡ refusal.Settings kind
-          → IsSettingsFault inputs.plan (length inputs.zones) inputs.formulas inputs.settings kind
+      pub invalid : (kind : SettingsFault)
+          → (why ≡ refusal.Settings kind) ↔ IsSettingsFault inputs.plan (length inputs.zones) inputs.formulas inputs.settings kind
       pub refused : IsNotCompiled inputs.plan (all_remaining state feeds) (HasFailed state feeds) why
       pub starts : AreStartsOf (inputs.settings.valuers + length inputs.zones) old.starts new.starts why
       pub still : new.sinks ≡ old.sinks

@@ -8,9 +8,9 @@ pub struct ThinCounts {
     /// The number of blocks.
     pub rows: usize,
     /// The number of retained arcs.
-    pub left: u128,
+    pub retained: u128,
     /// The number of all arcs.
-    pub whole: u128,
+    pub all: u128,
 }
 
 impl fmt::Display for ThinCounts {
@@ -20,7 +20,11 @@ impl fmt::Display for ThinCounts {
     ghost output = { λ counts. Some (counts_words counts) };
 
     fn fmt<W: fmt::Write>(&self, f: &mut fmt::Formatter<W>) -> fmt::Result {
-        let ThinCounts { rows, left, whole } = self;
-        write!(f, "rows {rows} arcs {left} of {whole}")
+        let ThinCounts {
+            rows,
+            retained,
+            all,
+        } = self;
+        write!(f, "rows {rows} arcs {retained} of {all}")
     }
 }

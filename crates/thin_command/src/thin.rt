@@ -6,10 +6,10 @@ ghost use Rattle.command_io.specs.World.{CommandEnds};
 ghost use Rattle.plan_parts.specs.Destinations.{formulas_of};
 ghost use Rattle.run_threads.specs.Starts.{none_spent, AreSettled};
 ghost use Rattle.thin_command.specs.CountsText.{counts_words};
-ghost use Rattle.thin_command.specs.Thin.{IsNotThinned, TellsThinned};
+ghost use Rattle.thin_command.specs.Thin.{IsNotThinned, ReportsThinned};
 
 use crate::counts::ThinCounts;
-use crate::thin_writing::write_fewer;
+use crate::thin_writing::write_reduced;
 use command_io::refused::Refused;
 use command_io::refused::fault_line::report;
 use command_io::world::World;
@@ -55,7 +55,7 @@ pub fn thin_into<R: Threads + Wait + Sync, O: Opener, S: Sink>(
     out: &mut Vec<u8>,
 ) -> Result<(), Refused>
     requires unspent { starts.old ≡ none_spent starts.old.allowed }
-    ensures done { OnOk result (TellsThinned (record {
+    ensures done { OnOk result (ReportsThinned (record {
       plan = plan.now;
       formulas = formulas_of destinations.now;
       zones = map string_bytes zones.now;
@@ -81,7 +81,7 @@ pub fn thin_into<R: Threads + Wait + Sync, O: Opener, S: Sink>(
         settings,
         starts,
     )?;
-    let counts = write_fewer(alloc, instance, sink)?;
+    let counts = write_reduced(alloc, instance, sink)?;
     append_counts(alloc, counts, out)?;
     Ok(())
 }
@@ -105,7 +105,7 @@ pub fn thin<R: Threads + Wait + Sync, O: Opener + Drop, F: FileSlots + Drop, S: 
       zones = map string_bytes zones.now;
       settings = settings;
     } in
-        CommandEnds (λ old new. TellsThinned inputs
+        CommandEnds (λ old new. ReportsThinned inputs
         (run_state old.opened old.starts (S.state sink.old))
         (run_state new.opened new.starts (S.state sink.new)) old.text new.text)
         (λ old new. IsNotThinned inputs (run_state old.opened old.starts (S.state sink.old))
@@ -132,7 +132,7 @@ pub fn thin<R: Threads + Wait + Sync, O: Opener + Drop, F: FileSlots + Drop, S: 
 
 // Appends the line of the counts to `out`. If memory is refused, `out` is unchanged.
 fn append_counts(alloc: Global, counts: ThinCounts, out: &mut Vec<u8>) -> Result<(), AllocError>
-    ensures told { OnOk result
+    ensures reported { OnOk result
         (out.new.items ≡ out.old.items ++ (counts_words counts ++ 10 ∷ [])) }
     ensures kept { OnErr result (out.new.items ≡ out.old.items) }
 {

@@ -10,13 +10,13 @@ ghost use Rattle.thin_command.specs.inner.Answered.{in_sink};
 use crate::counts::ThinCounts;
 use devices::sinks::sink::Sink;
 use devices::sinks::write_fault::WriteFault;
-use fewer_arcs::FewerPreds;
+use fewer_arcs::ReducedPreds;
 use mine_instance::instance::Instance;
 use mine_instance::{LazyCoefs, LazyValues};
 use minelib_lines::text_name::TextName;
 use minelib_writing::{count_arcs, write_lists};
 use pit_units::OrMemory;
-use precedence::FoundPreds;
+use precedence::LazyPreds;
 use refusals::refusal::Refusal;
 use std::alloc::{AllocError, Global};
 
@@ -28,9 +28,9 @@ use std::alloc::{AllocError, Global};
 /// - `OutOfMemory`: memory was refused.
 ///
 /// The sink is unchanged, or begun with a prefix of the text.
-pub fn write_fewer<S: Sink>(
+pub fn write_reduced<S: Sink>(
     alloc: Global,
-    instance: Instance<FoundPreds, LazyCoefs, LazyValues>,
+    instance: Instance<LazyPreds, LazyCoefs, LazyValues>,
     sink: &mut S,
 ) -> Result<ThinCounts, Refusal>
     requires { IsValid instance }
@@ -41,14 +41,18 @@ pub fn write_fewer<S: Sink>(
         (IsStopped (thin_text instance) (S.state sink.old) (S.state sink.new)) }
 {
     let (rows, preds) = parts_of(instance);
-    let whole = count_all(alloc, &preds)?;
-    let mut fewer = FewerPreds::new(alloc, preds);
-    let left = in_sink(write_lists(alloc, &mut fewer, sink))?;
-    Ok(ThinCounts { rows, left, whole })
+    let all = count_all(alloc, &preds)?;
+    let mut reduced = ReducedPreds::new(alloc, preds);
+    let retained = in_sink(write_lists(alloc, &mut reduced, sink))?;
+    Ok(ThinCounts {
+        rows,
+        retained,
+        all,
+    })
 }
 
 // Returns the number of predecessors of all blocks. Counts by the rows of the cones, or by the lists if that is faster.
-fn count_all(alloc: Global, preds: &FoundPreds) -> Result<u128, AllocError>
+fn count_all(alloc: Global, preds: &LazyPreds) -> Result<u128, AllocError>
     requires { length preds.now ≤ MAX_BLOCKS }
     ensures { IfOk result (λ arcs. arcs ≡ sum_by length preds.now) }
 {
@@ -59,7 +63,7 @@ fn count_all(alloc: Global, preds: &FoundPreds) -> Result<u128, AllocError>
 }
 
 // Returns the number of an instance's blocks, and their predecessors.
-fn parts_of(instance: Instance<FoundPreds, LazyCoefs, LazyValues>) -> (usize, FoundPreds)
+fn parts_of(instance: Instance<LazyPreds, LazyCoefs, LazyValues>) -> (usize, LazyPreds)
     ensures rows { result.0 ≡ length instance.blocks }
     ensures preds { result.1 ≡ instance.preds }
 {

@@ -27,9 +27,9 @@ OfRow IsSo (item.Row row) = IsSo row
 OfRow IsSo (item.End file rows) = Unit {0}
 
 -- the worths of each row are the values that the closures of the destinations returned for its block
-abbrev pub WereAsked : {I : _} {F : _} {g : _}
+abbrev pub WereCalled : {I : _} {F : _} {g : _}
     → (DynBox I Global F → Block → ℤ → Type 0) → List (Destination I F g) → List Item → Type 0
-WereAsked Answers destinations items = All (OfRow (λ row. AreAnswered Answers destinations row.block row.worths)) items
+WereCalled Answers destinations items = All (OfRow (λ row. AreAnswered Answers destinations row.block row.worths)) items
 
 -- each row passed the gate, by its file and its place
 abbrev pub WerePassed : (ℕ → ℕ → Type 0) → List Item → Type 0

@@ -4,7 +4,7 @@ ghost use Rattle.std.specs.Prelude.{◌≡◌, ◌≤◌, ◌++◌, true, [], �
 ghost use Rattle.lane.specs.MessageKinds.{is_done};
 ghost use Rattle.plan_parts.specs.Destinations.{formulas_of};
 ghost use Rattle.rows.specs.ItemsView.{IsFull, IsFullFor};
-ghost use Rattle.valuers.specs.Valuing.{AreOneToEight, IsPrefixOf, TookMore, WereAsked, WerePassed, items_by, items_since};
+ghost use Rattle.valuers.specs.Valuing.{AreOneToEight, IsPrefixOf, TookMore, WereCalled, WerePassed, items_by, items_since};
 ghost use Rattle.plan_parts.specs.declared.ranges.TheConstants.{MAX_DESTINATIONS};
 
 use crate::gate::Gate;
@@ -48,7 +48,7 @@ pub fn value_all<R: Wait, G: Gate>(
     ensures prefix { IsPrefixOf (items_since (formulas_of destinations.now) take_end result.taker) result.items.items }
     ensures full { IsTrue result.memory → IsFull result.items }
     ensures passed { WerePassed (G.passed_row gate.now valuer) result.items.items }
-    ensures asked { WereAsked ⟦<Valuer as Fn(Block) -> i128>⟧.post destinations.now
+    ensures asked { WereCalled ⟦<Valuer as Fn(Block) -> i128>⟧.post destinations.now
         result.items.items }
 {
     let items = Vec::new(alloc);
@@ -78,7 +78,7 @@ pub fn value_packed<R: Wait, G: Gate>(
     ensures prefix { IsPrefixOf (items_since (formulas_of destinations.now) take_end result.taker) result.items.items }
     ensures full { IsTrue result.memory → IsFullFor (length destinations.now) result.items }
     ensures passed { WerePassed (G.passed_row gate.now valuer) result.items.items }
-    ensures asked { WereAsked ⟦<Valuer as Fn(Block) -> i128>⟧.post destinations.now
+    ensures asked { WereCalled ⟦<Valuer as Fn(Block) -> i128>⟧.post destinations.now
         result.items.items }
 {
     let items = PackedItems::new(alloc, destinations.len());
@@ -109,7 +109,7 @@ fn take_all<R: Wait, G: Gate, K: Keeps>(
     ensures width { K.is_for result.1 (length destinations.now) }
     ensures full { IsTrue result.2 → K.is_full result.1 (length destinations.now) }
     ensures passed { WerePassed (G.passed_row gate.now valuer) (K.held result.1) }
-    ensures asked { WereAsked ⟦<Valuer as Fn(Block) -> i128>⟧.post destinations.now (K.held result.1) }
+    ensures asked { WereCalled ⟦<Valuer as Fn(Block) -> i128>⟧.post destinations.now (K.held result.1) }
 {
     let mut memory = false;
     for _ in rt.forever() {
@@ -141,7 +141,7 @@ fn push_item<R: Wait, G: Gate, K: Keeps>(
     ensures width { K.is_for items.new (length destinations.now) }
     ensures full { OnErr result (K.is_full items.new (length destinations.now)) }
     ensures passed { OnOk result (WerePassed (G.passed_row gate.now valuer) (items_by (formulas_of destinations.now) (message ∷ []))) }
-    ensures asked { OnOk result (WereAsked ⟦<Valuer as Fn(Block) -> i128>⟧.post destinations.now
+    ensures asked { OnOk result (WereCalled ⟦<Valuer as Fn(Block) -> i128>⟧.post destinations.now
         (items_by (formulas_of destinations.now) (message ∷ []))) }
 {
     match message {

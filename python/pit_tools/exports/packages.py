@@ -41,7 +41,7 @@ def recognised(source: Source) -> str:
             return name
     keys = {column_key(name) for name in source.names}
     for name, package in PACKAGES.items():
-        if any(keys.issuperset(group) for group in package.signs):
+        if any(keys.issuperset(group) for group in package.identifying):
             return name
     return ""
 

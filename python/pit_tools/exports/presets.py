@@ -21,12 +21,12 @@ class Package:
     by number. `has_parents` is true if no block is larger than a parent. `bearing` is what an
     azimuth above the header means: the direction of the model's +x or +y. `order` is the order of
     three numbers above the header. `marks` mean missing values; a header is recognised by all
-    columns of a group in `signs`."""
+    columns of a group in `identifying`."""
 
     title: str
     places: Sequence[Triple]
     sizes: Sequence[Triple]
-    signs: Sequence[Sequence[str]]
+    identifying: Sequence[Sequence[str]]
     world: Sequence[Triple] = ()
     index: str = ""
     corner: Sequence[str] = ()

@@ -436,11 +436,11 @@ def _has_width(chunk: bytes, separator: str, width: int) -> bool:
     proves nothing."""
     if separator == " " or b'"' in chunk:
         return False
-    signs = np.frombuffer(chunk if chunk.endswith(b"\n") else chunk + b"\n", np.uint8)
-    ends = np.flatnonzero(signs == ord("\n"))
+    characters = np.frombuffer(chunk if chunk.endswith(b"\n") else chunk + b"\n", np.uint8)
+    ends = np.flatnonzero(characters == ord("\n"))
     starts = np.r_[0, ends[:-1] + 1]
-    found = np.add.reduceat(signs == ord(separator), starts)
-    is_blank = ends - starts == (signs[starts] == ord("\r"))
+    found = np.add.reduceat(characters == ord(separator), starts)
+    is_blank = ends - starts == (characters[starts] == ord("\r"))
     return bool(((found == width - 1) | is_blank).all())
 
 

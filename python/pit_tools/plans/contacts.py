@@ -46,7 +46,7 @@ def contacts_of(blocks: Blocks, zones: Sequence[Zone], size: tuple[int, int, int
         _look_above(found, blocks, places, zone, one, ids, others)
         # The highest bench of a cone that ends at steeper rock is in that, and should be.
         benches = one.benches - 1 if found.begins.get(zone) == one.benches else one.benches
-        for other, taken in _beside(blocks, zones, size, places, zone, ids, benches).items():
+        for other, taken in _nearby(blocks, zones, size, places, zone, ids, benches).items():
             found.adjacent[zone, other] = int(taken.sum())
     return found
 
@@ -73,7 +73,7 @@ def _look_above(found: Contacts, blocks: Blocks, places: Places, zone: int, one:
                         for other, taken in seen.items() if taken.any()})
 
 
-def _beside(blocks: Blocks, zones: Sequence[Zone], size: tuple[int, int, int], places: Places,
+def _nearby(blocks: Blocks, zones: Sequence[Zone], size: tuple[int, int, int], places: Places,
             zone: int, ids: np.ndarray, benches: int) -> dict[int, np.ndarray]:
     """Returns for each steeper zone which of these blocks have a cone whose edge extends into it,
     up to `benches`."""

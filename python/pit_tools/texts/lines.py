@@ -203,12 +203,12 @@ def chunks_of(path: str, is_own: bool = False) -> Iterator[Chunk]:
         chunk = Chunk(path, number, _own(text) if is_own else _plain(text))
         may_end = not is_own and (b"f" in text or b"F" in text)
         if end := _END.search(chunk.text) if may_end else None:
-            behind = chunk.between(end.end() + 1, len(chunk.text))
+            remainder = chunk.between(end.end() + 1, len(chunk.text))
             chunk, has_ended = chunk.between(0, end.start()), True
         elif has_ended:
-            chunk, behind = Chunk(path, number, b""), chunk
-        if has_ended and behind.text.strip():
-            behind.reject(0, "it follows EOF")
+            chunk, remainder = Chunk(path, number, b""), chunk
+        if has_ended and remainder.text.strip():
+            remainder.reject(0, "it follows EOF")
         number += count
         if chunk.text.strip():
             yield chunk

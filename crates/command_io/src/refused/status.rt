@@ -1,10 +1,12 @@
 //! The exit statuses of the program.
 
-ghost use Rattle.std.specs.Prelude.{◌≡◌, ◌≢◌, ◌⊎◌};
+ghost use Rattle.std.specs.Prelude.{◌≡◌, ◌≢◌};
 ghost use Rattle.std.specs.Process.{exit_status};
-ghost use Rattle.command_io.specs.WriteWhole.{TakesAll, TakesAtMost, TakesLess, output_failed, printed_lines};
+ghost use Rattle.command_io.specs.Ending.{PrintsLines, PrintsText};
+ghost use Rattle.command_io.specs.WriteAll.{TakesAtMost, printed_lines};
 
-use crate::write_whole::write_whole;
+use crate::ending::Streams;
+use crate::write_all::write_all;
 use devices::sinks::sink::Sink;
 use std::process::ExitCode;
 
@@ -29,37 +31,25 @@ pub const RESOURCES: u8 = 4;
 ///   no memory for a line, it writes `pitc: OutOfMemory`.
 ///
 /// A failure of standard error changes nothing.
-pub fn finish<O: Sink, E: Sink>(
-    output: &mut O,
-    errors: &mut E,
+pub fn finish<P: Sink, E: Sink>(
+    streams: &mut Streams<P, E>,
     status: u8,
     text: &[u8],
     lines: &[u8],
 ) -> ExitCode
-    // The exit status, and what standard output then took.
+    ensures done { status ≡ 0
+        → PrintsText P.state E.state text.now streams.old streams.new (exit_status result) }
     ensures refused { status ≢ 0 → exit_status result ≡ status }
-    ensures quiet { status ≢ 0 → output.new ≡ output.old }
-    ensures done { status ≡ 0 → (exit_status result ≡ 0) ⊎ (exit_status result ≡ 3) }
-    ensures whole { status ≡ 0 → exit_status result ≡ 0
-        → TakesAll text.now (O.state output.old) (O.state output.new) }
-    ensures short { status ≡ 0 → exit_status result ≡ 3
-        → TakesLess text.now (O.state output.old) (O.state output.new) }
-
-    // What standard error took.
-    ensures still { exit_status result ≡ 0 → errors.new ≡ errors.old }
-    ensures reported { status ≢ 0
-        → TakesAtMost (printed_lines lines.now) (E.state errors.old) (E.state errors.new) }
-    ensures failed { status ≡ 0 → exit_status result ≡ 3
-        → TakesAtMost output_failed (E.state errors.old) (E.state errors.new) }
+    ensures reported { status ≢ 0 → PrintsLines P.state E.state lines.now streams.old streams.new }
 {
     if status != 0 {
-        write_line(errors, lines_to_print(lines));
+        write_line(&mut streams.errors, lines_to_print(lines));
         return ExitCode::from(status);
     }
-    match write_whole(output, text) {
+    match write_all(&mut streams.output, text) {
         Ok(()) => ExitCode::from(0),
         Err(_) => {
-            write_line(errors, b"pitc: output: SinkFailed\n");
+            write_line(&mut streams.errors, b"pitc: output: SinkFailed\n");
             ExitCode::from(DEVICE)
         }
     }
@@ -79,5 +69,5 @@ fn lines_to_print(lines: &[u8]) -> &[u8]
 fn write_line<E: Sink>(errors: &mut E, line: &[u8])
     ensures { TakesAtMost line.now (E.state errors.old) (E.state errors.new) }
 {
-    let _ = write_whole(errors, line);
+    let _ = write_all(errors, line);
 }

@@ -98,8 +98,8 @@ pub record IsGathering (size : Size) (lane : Lane) (sent : List (List Taken)) (a
   pub rest_done : AllByRecursion (λ t. is_done t.took ≡ true) rest
 
 -- the closer's view while put ends, and then take ends, are given away: the ends from number k on remain
-abbrev pub puts_left : ℕ → ℕ → ℕ → ℕ → List Part
-puts_left files takers capacity k = Close files takers capacity 0 0 ∷ (put_parts capacity k (replicate (files - k) []) ++ take_parts capacity 0 (replicate takers []))
+abbrev pub puts_remaining : ℕ → ℕ → ℕ → ℕ → List Part
+puts_remaining files takers capacity k = Close files takers capacity 0 0 ∷ (put_parts capacity k (replicate (files - k) []) ++ take_parts capacity 0 (replicate takers []))
 
-abbrev pub takes_left : ℕ → ℕ → ℕ → ℕ → List Part
-takes_left files takers capacity k = Close files takers capacity 0 0 ∷ take_parts capacity k (replicate (takers - k) [])
+abbrev pub takes_remaining : ℕ → ℕ → ℕ → ℕ → List Part
+takes_remaining files takers capacity k = Close files takers capacity 0 0 ∷ take_parts capacity k (replicate (takers - k) [])

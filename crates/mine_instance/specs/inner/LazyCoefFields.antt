@@ -4,8 +4,8 @@ use Rattle.std.specs.List.{flat_map, enumerate_from}
 use Rattle.plan_parts.specs.declared.block.Block.{Block}
 use Rattle.mine_instance.specs.coefs.CoveredPairs.{coef_of}
 use Rattle.mine_instance.specs.declared.coefs.coef.Coef.{Coef}
-use Rattle.mine_instance.specs.declared.coefs.found.LazyCoefs.TheInside.{Inside}
-use Rattle.mine_instance.specs.declared.coefs.found.HeavyBlock.{HeavyBlock}
+use Rattle.mine_instance.specs.declared.coefs.lazy.LazyCoefs.TheInside.{Inside}
+use Rattle.mine_instance.specs.declared.coefs.lazy.HeavyBlock.{HeavyBlock}
 use Rattle.plan_parts.specs.declared.ranges.TheConstants.{MAX_BLOCKS, MAX_DESTINATIONS, MAX_RESOURCES}
 
 -- a block, if it has tonnage
@@ -23,11 +23,11 @@ heavy_coef block = coef_of block.b (pos (block.kg * 1000))
 abbrev pub heavy_coefs : List (ℕ × ℕ) → HeavyBlock → List Coef
 heavy_coefs pairs block = map (heavy_coef block) pairs
 
-abbrev pub found_coefs : List (ℕ × ℕ) → List HeavyBlock → List Coef
-found_coefs pairs heavy = flat_map (heavy_coefs pairs) heavy
+abbrev pub lazy_coefs : List (ℕ × ℕ) → List HeavyBlock → List Coef
+lazy_coefs pairs heavy = flat_map (heavy_coefs pairs) heavy
 
-abbrev pub found_in : Inside → List Coef
-found_in f = found_coefs f.pairs.items f.heavy.items
+abbrev pub lazy_coefs_of : Inside → List Coef
+lazy_coefs_of f = lazy_coefs f.pairs.items f.heavy.items
 
 -- so few of both that 64 bits can hold the number of coefficients
 pub record KeepsFew (f : Inside) : Type 0 where

@@ -3,5 +3,5 @@ use Rattle.std.specs.Prelude.{ℕ, ℤ, List, [], map, slice_index_or}
 use Rattle.mine_instance.specs.OfModel.{in_hundreds}
 
 -- the values, from the worths at a position
-abbrev pub found_at : List (List ℤ) → ℕ → List ℤ
-found_at worths position = map in_hundreds (slice_index_or worths position [])
+abbrev pub values_at : List (List ℤ) → ℕ → List ℤ
+values_at worths position = map in_hundreds (slice_index_or worths position [])

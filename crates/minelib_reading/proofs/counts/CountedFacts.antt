@@ -1,5 +1,5 @@
--- The number of rising coefficients is at most their largest place; rows of values with another one.
-use Rattle.std.proofs.Common.{◌≡◌, ℕ, ◌+◌, ◌-◌, ◌<◌, ◌≤◌, true, List, [], ◌∷◌, ◌++◌, length, Option, Some, None, refl, sym, ap, ◌∙◌, arith, ℤ}
+-- The number of rising coefficients is at most their largest place; rows with another one.
+use Rattle.std.proofs.Common.{◌≡◌, ℕ, ◌+◌, ◌-◌, ◌<◌, ◌≤◌, true, List, [], ◌∷◌, ◌++◌, length, Option, Some, None, refl, sym, ap, ◌∙◌, arith}
 use Rattle.std.proofs.lemmas.Bool.Decides.{nat_tests}
 use Rattle.std.proofs.lemmas.List.{length-map, length_push, map-append}
 use Rattle.std.specs.Prelude.{slice_get}
@@ -7,7 +7,7 @@ use Rattle.std.specs.Global.{Vec}
 use Rattle.mine_instance.specs.Order.{coef_before}
 use Rattle.mine_instance.specs.declared.coefs.coef.Coef.{Coef}
 use Rattle.minelib_reading.specs.ModelDraft.{is_after, last_of}
-use Rattle.minelib_reading.specs.inner.CountedItems.{last_d, last_r, most_up_to, values_in_rows}
+use Rattle.minelib_reading.specs.inner.CountedItems.{last_d, last_r, lists_in, most_up_to}
 
 pub next_place : (last : Option Coef) (n : ℕ) (c : Coef) → last_d last < 256 → last_r last < 256 → n ≤ most_up_to last → is_after coef_before last c ≡ true
     → n + 1 ≤ most_up_to (Some c)
@@ -23,8 +23,8 @@ last_added coefs c =
     let place : length (coefs ++ c ∷ []) - 1 ≡ length coefs = rw (length_push coefs c) (omega arith) in
     sym (ap (slice_get (coefs ++ c ∷ [])) place ∙ added coefs c)
 
-pub one_row_more : (rows : List (Vec ℤ)) (row : Vec ℤ) → values_in_rows (rows ++ row ∷ []) ≡ values_in_rows rows ++ row.items ∷ []
-one_row_more rows row = map-append (λ (r : Vec ℤ). r.items) rows (row ∷ [])
+pub one_row_more : {A : Type 0} (rows : List (Vec A)) (row : Vec A) → lists_in (rows ++ row ∷ []) ≡ lists_in rows ++ row.items ∷ []
+one_row_more {A} rows row = map-append (λ (r : Vec A). r.items) rows (row ∷ [])
 
-pub rows_counted : (rows : List (Vec ℤ)) → length (values_in_rows rows) ≡ length rows
-rows_counted rows = length-map rows (λ (r : Vec ℤ). r.items)
+pub rows_counted : {A : Type 0} (rows : List (Vec A)) → length (lists_in rows) ≡ length rows
+rows_counted {A} rows = length-map rows (λ (r : Vec A). r.items)

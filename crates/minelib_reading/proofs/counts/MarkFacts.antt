@@ -12,14 +12,14 @@ use Rattle.std.proofs.lemmas.Grind.{get_or-set_at}
 use Rattle.std.proofs.Math.Bool.{or-true, or-false}
 use Rattle.minelib_reading.specs.inner.Marks.{AreMarked, rise_above}
 use Rattle.minelib_reading.proofs.lines.PrecTests.{differ_again, others_differ, pairs_differ, stands_not}
-use Rattle.minelib_reading.specs.LineForms.{all_differ, stands_in}
+use Rattle.minelib_reading.specs.LineForms.{all_differ, has_id}
 
-one_more : (ids : List ℕ) (id place : ℕ) → stands_in (ids ++ id ∷ []) place ≡ (stands_in ids place || ((id == place) || false))
+one_more : (ids : List ℕ) (id place : ℕ) → has_id (ids ++ id ∷ []) place ≡ (has_id ids place || ((id == place) || false))
 one_more ids id place = list_any-append (λ other. other == place) ids (id ∷ [])
 
 -- if a number also appears at a later place, the numbers are not distinct
-stands_twice : (ids : List ℕ) (id : ℕ) (rest : List ℕ) → stands_in ids id ≡ true → all_differ (ids ++ id ∷ rest) ≡ false
-stands_twice ids id rest e = by (all_differ (ids ++ id ∷ rest)) refl
+has_id_twice : (ids : List ℕ) (id : ℕ) (rest : List ℕ) → has_id ids id ≡ true → all_differ (ids ++ id ∷ rest) ≡ false
+has_id_twice ids id rest e = by (all_differ (ids ++ id ∷ rest)) refl
   where
     by : (t : Bool) → all_differ (ids ++ id ∷ rest) ≡ t → t ≡ false
     by false differ = refl
@@ -30,22 +30,22 @@ stands_twice ids id rest e = by (all_differ (ids ++ id ∷ rest)) refl
         (same ∙ sym (get_or_at ids id rest there.1 (length ids) refl)))
 
 -- distinct numbers with another one that is not among them
-differ_more : (ids : List ℕ) (id : ℕ) → all_differ ids ≡ true → stands_in ids id ≡ false → all_differ (ids ++ id ∷ []) ≡ true
+differ_more : (ids : List ℕ) (id : ℕ) → all_differ ids ≡ true → has_id ids id ≡ false → all_differ (ids ++ id ∷ []) ≡ true
 differ_more ids id e new =
     differ_again (ids ++ id ∷ []) (all_pairs_push (λ a b. a ≢ b) ids id (pairs_differ ids e) (others_differ id ids new))
 
 -- exactly the numbers of a list are marked
 abbrev pub AreJustMarked : List ℕ → List Bool → Type 0
-AreJustMarked ids marks = (place : ℕ) → slice_index_or marks place false ≡ stands_in ids place
+AreJustMarked ids marks = (place : ℕ) → slice_index_or marks place false ≡ has_id ids place
 
 marked_more : (ids : List ℕ) (marks : List Bool) (id : ℕ) → id < length marks → AreJustMarked ids marks
     → AreJustMarked (ids ++ id ∷ []) (slice_set marks id true)
 marked_more ids marks id within just place = at (id == place) refl where
-  at : (t : Bool) → (id == place) ≡ t → slice_index_or (slice_set marks id true) place false ≡ stands_in (ids ++ id ∷ []) place
+  at : (t : Bool) → (id == place) ≡ t → slice_index_or (slice_set marks id true) place false ≡ has_id (ids ++ id ∷ []) place
   at true e = get_or-set_at marks id place true false (grind (arith, nat_tests, e)) within
-      ∙ sym (one_more ids id place ∙ rw e (or-true (stands_in ids place)))
+      ∙ sym (one_more ids id place ∙ rw e (or-true (has_id ids place)))
   at false e = get_or-set_other marks id place true false (grind (arith, nat_tests, e)) ∙ just place
-      ∙ sym (one_more ids id place ∙ rw e (or-false (stands_in ids place)))
+      ∙ sym (one_more ids id place ∙ rw e (or-false (has_id ids place)))
 
 -- the numbers before a place, the number there, and the later ones
 parts_at : (ids : List ℕ) (place : ℕ) → place < length ids → ids ≡ take place ids ++ get_or ids place 0 ∷ drop (suc place) ids
@@ -58,17 +58,17 @@ pub repeated : (ids : List ℕ) (marks : List Bool) (place : ℕ) → place < le
     → slice_index_or marks (get_or ids place 0) false ≡ true → all_differ ids ≡ false
 repeated ids marks place within just stands =
     subst (λ all. all_differ all ≡ false) (sym (parts_at ids place within))
-    (stands_twice (take place ids) (get_or ids place 0) (drop (suc place) ids) (sym (just (get_or ids place 0)) ∙ stands))
+    (has_id_twice (take place ids) (get_or ids place 0) (drop (suc place) ids) (sym (just (get_or ids place 0)) ∙ stands))
 
 -- the marked first numbers are in the list
 pub marked_of_all : (ids : List ℕ) (marks : List Bool) (place : ℕ) → place < length ids → AreJustMarked (take place ids) marks
     → AreMarked ids marks
 marked_of_all ids marks place within just at h =
     let following = get_or ids place 0 ∷ drop (suc place) ids in
-    let first : stands_in (take place ids) at ≡ true = sym (just at) ∙ h in
-    let whole : stands_in (take place ids ++ following) at ≡ true =
+    let first : has_id (take place ids) at ≡ true = sym (just at) ∙ h in
+    let whole : has_id (take place ids ++ following) at ≡ true =
     list_any-append (λ other. other == at) (take place ids) following ∙ rw first refl in
-    subst (λ all. IsTrue (stands_in all at)) (sym (parts_at ids place within)) whole
+    subst (λ all. IsTrue (has_id all at)) (sym (parts_at ids place within)) whole
 
 -- marking the number at a place, if it is not marked yet
 pub marked_at : (ids : List ℕ) (marks : List Bool) (place : ℕ) → place < length ids → get_or ids place 0 < length marks
@@ -89,7 +89,7 @@ rising_above own (id ∷ ids) e =
     All-cons (λ other. own < other) id ids first (λ k d within. let above = rising_above id ids parts.1 k d within in omega (arith, first, above))
 
 -- and are distinct, and other than it
-pub rising_differ : (own : ℕ) (ids : List ℕ) → rise_above own ids ≡ true → (stands_in ids own ≡ false) × (all_differ ids ≡ true)
+pub rising_differ : (own : ℕ) (ids : List ℕ) → rise_above own ids ≡ true → (has_id ids own ≡ false) × (all_differ ids ≡ true)
 rising_differ own [] e = (refl, refl)
 rising_differ own (id ∷ ids) e =
     let parts = and_parts (nat_lt own id) (rise_above id ids) e in

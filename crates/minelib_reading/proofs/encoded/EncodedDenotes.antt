@@ -21,7 +21,7 @@ use Rattle.minelib_reading.proofs.encoded.EncodedRead.{blocks_exact, lists_exact
 use Rattle.minelib_reading.specs.BlockText.{blocks_in}
 use Rattle.minelib_reading.specs.Denotes.{Denotes, DenotesCpit, cpit_denoted, cpit_read, denoted, instance_read}
 use Rattle.minelib_reading.specs.HeaderNumbers.{count_in}
-use Rattle.minelib_reading.specs.ModelDraft.{ModelDraftView, blank_model, is_whole}
+use Rattle.minelib_reading.specs.ModelDraft.{ModelDraftView, blank_model, has_all_parts}
 use Rattle.minelib_reading.specs.ModelText.{line_stated, model_in}
 use Rattle.minelib_reading.specs.PrecText.{preds_in}
 use Rattle.minelib_reading.specs.StatedModel.{StatedModel, alone, model_of, model_of_cpit, stated_by}
@@ -33,7 +33,7 @@ model_states : (problem : Problem) (n : ℕ) (text : List ℕ) (d : ModelDraftVi
     → StateModel problem n (lines_in text) d
 model_states problem n text d e =
     bind_then (read_lines line_stated (blank_model problem n) (lines_in text)) _ d e (λ found read rest.
-    let t = then_ok (is_whole found) _ (Ok found) d rest in
+    let t = then_ok (has_all_parts found) _ (Ok found) d rest in
     subst (StateModel problem n (lines_in text)) (same_ok found d t.1) (read, t.0))
 
 states_back : (problem : Problem) (n : ℕ) (text : List ℕ) (d : ModelDraftView) → StateModel problem n (lines_in text) d

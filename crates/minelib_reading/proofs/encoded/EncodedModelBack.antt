@@ -22,8 +22,7 @@ use Rattle.minelib_reading.proofs.keys.KeyNumbers.{from_zero, number_back, repor
 use Rattle.minelib_reading.proofs.lines.ItemLines.{items_state}
 use Rattle.minelib_reading.proofs.lines.FormFacts.{line_keyless}
 use Rattle.minelib_reading.proofs.lines.LineFacts.{coef_fields_keyless}
-use Rattle.minelib_reading.proofs.models.Drafts.{draft, heading}
-use Rattle.minelib_reading.proofs.models.ModelSteps.{coef_back, limit_back, values_back}
+use Rattle.minelib_reading.proofs.models.ModelSteps.{coef_added, limit_added, values_added}
 use Rattle.minelib_reading.proofs.models.Places.{after_last}
 use Rattle.minelib_reading.proofs.models.ValidModel.{in_both, key_encoded}
 use Rattle.minelib_reading.proofs.encoded.EncodedModelRead.{StateModel}
@@ -39,6 +38,10 @@ use Rattle.minelib_reading.specs.encoded.EncodedItems.{EncodesCoef, EncodesLimit
 use Rattle.minelib_reading.specs.encoded.EncodedKeys.{IsKeyLine}
 use Rattle.minelib_reading.specs.encoded.EncodedLines.{AreLines}
 use Rattle.minelib_reading.specs.encoded.EncodedModel.{AreHeaderLines, AreModelLines, EncodesKey, IsHeaderLine, IsSingle}
+
+-- the content of a model file before its first section
+abbrev pub heading : Problem → ℕ → List ℕ → Header → ModelDraftView
+heading problem n name h = record (blank_model problem n) { name = name; header = h }
 
 -- a key's line adds what the header states for the key
 name_same : (p : Problem) (n : ℕ) (m : StatedHeader) (k : HeaderKey) (value name : List ℕ) → EncodesKey p n m k value
@@ -76,7 +79,7 @@ pub values_states : (d : ModelDraftView) (vs : List ℤ) (line : List ℕ)
 values_states d vs line encoded =
     let at : ModelDraftView = record d { section = Objective } in
     item_states at _ line (line_keyless line _ encoded.0)
-    (values_back at (fields_of line) _ (vs, refl, encoded))
+    ((values_added at (fields_of line)).back _ (vs, refl, encoded))
 
 coef_states : (d : ModelDraftView) (c : Coef) (line : List ℕ)
     → EncodesCoef d.problem d.blocks (count_in d.header key.Destinations) (count_in d.header key.Resources) (fields_of line) c
@@ -85,7 +88,7 @@ coef_states : (d : ModelDraftView) (c : Coef) (line : List ℕ)
 coef_states d c line encoded following =
     let at : ModelDraftView = record d { section = Coefs } in
     item_states at _ line (coef_fields_keyless d.problem d.blocks (count_in d.header key.Destinations) (count_in d.header key.Resources) line c encoded)
-    (coef_back at (fields_of line) _ (c, refl, encoded, following))
+    ((coef_added at (fields_of line)).back _ (c, refl, encoded, following))
 
 limit_states : (d : ModelDraftView) (l : Limit) (line : List ℕ)
     → EncodesLimit (count_in d.header key.Resources) (count_in d.header key.Periods) (fields_of line) l × (is_turned l.bound ≡ false)
@@ -94,7 +97,7 @@ limit_states : (d : ModelDraftView) (l : Limit) (line : List ℕ)
 limit_states d l line encoded following =
     let at : ModelDraftView = record d { section = Limits } in
     item_states at _ line (line_keyless line _ encoded.0)
-    (limit_back at (fields_of line) _ (l, refl, encoded.0, encoded.1, following))
+    ((limit_added at (fields_of line)).back _ (l, refl, encoded.0, encoded.1, following))
 
 -- the NAME is the value of its key
 abbrev IsNameOf : HeaderKey → List ℕ → List ℕ → Type 0
@@ -211,7 +214,9 @@ sections_back : (problem : Problem) (n : ℕ) (m : StatedModel) (lines : List Li
     → read_lines line_stated (blank_model problem n) are.heading ≡ Ok (heading problem n name h)
     → StatedAs problem n lines (with_header m (header_stated name h))
 sections_back problem n m lines name h complete are header =
-    let at = draft problem n name h in
+    let at : Section → List (List ℤ) → List Coef → List Limit → ModelDraftView =
+    λ section values coefs limits.
+    record (heading problem n name h) { section = section; values = values; coefs = coefs; limits = limits } in
     let values = items_state line_stated (λ block line vs. EncodesValues n (count_in h key.Destinations) block (fields_of line) vs)
     (λ done. at Objective done [] []) m.values
     (λ done x rest line cut s. values_states (at Objective done [] []) x line s) 0 [] m.values are.values refl refl are.encode_values in

@@ -21,10 +21,10 @@ use Rattle.minelib_reading.proofs.keys.KeyLines.{next_by}
 use Rattle.minelib_reading.proofs.lines.FormFacts.{fields_fit}
 use Rattle.minelib_reading.proofs.lines.ItemLines.{line_more}
 use Rattle.minelib_reading.proofs.models.LineCases.{each_line}
-use Rattle.minelib_reading.proofs.models.ModelSteps.{coef_step, key_step, limit_step, section_step, values_step}
+use Rattle.minelib_reading.proofs.models.ModelSteps.{coef_added, key_step, limit_added, section_step, values_added}
 use Rattle.minelib_reading.proofs.models.Places.{rises_after}
 use Rattle.minelib_reading.specs.HeaderNumbers.{count_in, is_complete}
-use Rattle.minelib_reading.specs.ModelDraft.{ModelDraftView, blank_model, is_heading, is_limits, is_ready, is_whole}
+use Rattle.minelib_reading.specs.ModelDraft.{ModelDraftView, blank_model, is_heading, is_limits, is_ready, has_all_parts}
 use Rattle.minelib_reading.specs.ModelKeys.{section_text}
 use Rattle.minelib_reading.specs.ModelText.{item_stated, key_stated, line_stated, section_stated}
 use Rattle.minelib_reading.specs.StatedModel.{header_stated, stated_by}
@@ -37,7 +37,7 @@ use Rattle.minelib_reading.specs.encoded.EncodedModel.{AreModelLines, EncodesKey
 
 -- all lines of a model file of n blocks are read as this, and no required part is missing
 abbrev pub StateModel : Problem → ℕ → List Line → ModelDraftView → Type 0
-StateModel problem n lines d = (read_lines line_stated (blank_model problem n) lines ≡ Ok d) × (is_whole d ≡ true)
+StateModel problem n lines d = (read_lines line_stated (blank_model problem n) lines ≡ Ok d) × (has_all_parts d ≡ true)
 
 -- the lines of a section so far: the earlier lines, the line that begins the section, and one for each item; the items have a
 -- common property
@@ -201,7 +201,7 @@ stepped problem n done d next line states was =
 
     valued : d.section ≡ Objective → item_stated d Objective (fields_of line.text) ≡ Ok next → Now problem n next (done ++ line ∷ [])
     valued here states =
-        let s = values_step d (fields_of line.text) next states in
+        let s = (values_added d (fields_of line.text)).reported next states in
         let place = (fields_fit (fields_of line.text) _ s.2.0).0 in
         within _ Objective s.1 here here refl refl (λ before. (
           part_more (WholeHeader d.problem d.blocks d.name d.header) Objective (Values d) (AreFew d) d.values done line s.0 s.2
@@ -212,7 +212,7 @@ stepped problem n done d next line states was =
 
     spent : d.section ≡ Coefs → item_stated d Coefs (fields_of line.text) ≡ Ok next → Now problem n next (done ++ line ∷ [])
     spent here states =
-        let s = coef_step d (fields_of line.text) next states in
+        let s = (coef_added d (fields_of line.text)).reported next states in
         within _ Coefs s.1 here here refl refl (λ before. (
           part_more (InValues d) Coefs (Coefficient d) CoefsRise d.coefs done line s.0 s.2
               (rises_after coef_before coef_before_is_transitive d.coefs s.0 before.0.kept s.3) before.0,
@@ -222,7 +222,7 @@ stepped problem n done d next line states was =
 
     limited : d.section ≡ Limits → item_stated d Limits (fields_of line.text) ≡ Ok next → Now problem n next (done ++ line ∷ [])
     limited here states =
-        let s = limit_step d (fields_of line.text) next states in
+        let s = (limit_added d (fields_of line.text)).reported next states in
         within _ Limits s.1 here here refl refl (λ before. (
           part_more (InCoefs d) Limits (ALimit d) RiseStrictly d.limits done line s.0 (s.2, s.3)
               (rises_after stands_before stands_before_is_transitive d.limits s.0 before.0.kept s.4) before.0,

@@ -2,7 +2,7 @@
 use Rattle.std.specs.Prelude.{Bool, Err, List, Ok, Result, if◌then◌else◌, ℕ, ◌==◌, ◌⊎◌}
 use Rattle.std.proofs.Common.{[], ap, false, inl, inr, length, refl, subst, sym, true, ◌++◌, ◌∙◌, ◌∷◌, ◌≡◌}
 use Rattle.std.proofs.lemmas.Bool.{eq-eqb, eqb-true}
-use Rattle.pit_units.proofs.Exactly.{Exactly, as_, done, then_}
+use Rattle.pit_units.proofs.Exactly.{Exactly, as_, done, holds, then_}
 use Rattle.pit_units.specs.OrMemory.{Gives}
 use Rattle.pit_units.specs.Steps.{◌>>=◌}
 use Rattle.pit_units.specs.declared.or_memory.OrMemory.{OrMemory}
@@ -19,7 +19,7 @@ use Rattle.minelib_reading.specs.BlockText.{block_stated, blocks_in, with_block}
 use Rattle.minelib_reading.specs.PrecText.{finish_preds, lines_missing, preds_in, preds_stated, with_preds}
 use Rattle.minelib_reading.specs.inner.LinesTaken.{PrecDraftView, admit_preds, no_lists}
 use Rattle.minelib_reading.specs.encoded.EncodedLines.{AreLines, IsFirstInvalidLine}
-use Rattle.minelib_reading.specs.encoded.EncodedTexts.{EncodeBlocks, EncodePreds, EncodesBlockLine, EncodesPredsLine, LacksLines}
+use Rattle.minelib_reading.specs.encoded.EncodedTexts.{EncodeBlocks, EncodePreds, EncodesBlockLine, EncodesPredsLine, MissesLines}
 
 pub blocks_exact : (text : List ℕ) → Exactly (blocks_in text) (EncodeBlocks text)
 blocks_exact text =
@@ -60,10 +60,6 @@ preds_stopped n text after (Fault fault) read =
     sym (preds_read n text) ∙ ap (λ r. r >>= λ d. finish_preds d.blocks (end_of text) d.lists) read
 preds_stopped n text after OutOfMemory read = tt
 
-ends : {S : Type 0} (t : Bool) (s : S) (fault : LineFault) → Exactly (if t then Ok s else Err fault) (λ y. (t ≡ true) × (y ≡ s))
-ends true s fault = as_ (done s) (λ y e. (refl, e)) (λ y h. h.1)
-ends false s fault = record { reported = λ y e. absurd cc; back = λ y h. absurd (cc (h.0)) }
-
 -- the lines of a precedence file, for any number of lines
 each_exact : (n : ℕ) (text : List ℕ) → Exactly (read_lines (with_preds n) [] (lines_in text)) (AreLines (EncodesPredsLine n) 0 (lines_in text))
 each_exact n text =
@@ -71,7 +67,7 @@ each_exact n text =
 
 pub lists_exact : (n : ℕ) (text : List ℕ) → Exactly (preds_in n text) (EncodePreds n text)
 lists_exact n text =
-    as_ (then_ (each_exact n text) (λ lists. ends (length lists == n) lists (lines_missing (end_of text)))) to from
+    as_ (then_ (each_exact n text) (λ lists. holds (lines_missing (end_of text)) (done lists))) to from
   where
     Lines : List (List ℕ) → Type 0
     Lines lists = AreLines (EncodesPredsLine n) 0 (lines_in text) lists
@@ -106,7 +102,7 @@ ended_fails {S} admit s lines ended lacks fault e = by (read_lines admit s lines
 
 pub bad_preds : (n : ℕ) (text : List ℕ) (fault : LineFault) → preds_in n text ≡ Err fault
     → (IsFirstFault (with_preds n) [] (lines_in text) fault × IsFirstInvalidLine (EncodesPredsLine n) (lines_in text) fault.line)
-    ⊎ LacksLines n text fault
+    ⊎ MissesLines n text fault
 bad_preds n text fault e =
     elim (ended_fails (with_preds n) [] (lines_in text) (λ lists. length lists == n) (lines_missing (end_of text)) fault e) [
       | inl first ↦ inl (

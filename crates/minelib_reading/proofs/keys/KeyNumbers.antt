@@ -5,7 +5,7 @@ use Rattle.std.proofs.lemmas.Bool.{eq-eqb, eqb-true}
 use Rattle.std.proofs.lemmas.Int.{ints}
 use Rattle.std.proofs.lemmas.Slice.Eq.{bytes_eq-Decides}
 use Rattle.std.specs.Str.{bytes_eq}
-use Rattle.pit_units.proofs.Exactly.{Exactly, as_, done, made, then_}
+use Rattle.pit_units.proofs.Exactly.{Exactly, as_, done, holds, made, then_}
 use Rattle.pit_units.specs.EncodedNumbers.{EncodesBelow, EncodesInteger, EncodesNumber}
 use Rattle.pit_units.specs.Steps.{◌>>=◌}
 use Rattle.plan_parts.specs.Name.{is_name}
@@ -41,14 +41,6 @@ Keeps problem n key.Resources value number = EncodesBelow (MAX_RESOURCES + 1) va
 Keeps problem n key.General value number = EncodesBelow 1 value number
 Keeps problem n key.Rate value number = EncodesNumber 6 (pos 0) MAX_RATE value (pos number)
 
-pub passes : {A : Type 0} {r : Result A TextKind} {P : A → Type 0} (fault : TextKind) (t : Bool) → Exactly r P
-    → Exactly (if t then r else Err fault) (λ y. (t ≡ true) × P y)
-passes {A} {r} {P} fault t all = record { reported = λ y e. reported t refl y e; back = λ y h. rw h.0 (all.back y h.1) }
-  where
-    reported : (b : Bool) → t ≡ b → (y : A) → (if b then r else Err fault) ≡ Ok y → (t ≡ true) × P y
-    reported true is y e = (is, all.reported y e)
-    reported false is y e = absurd cc
-
 -- a number that is not negative equals its absolute value
 pub from_zero : (z : ℤ) → pos 0 ≤ℤ z → pos (unsigned_abs z) ≡ z
 from_zero (pos k) h = refl
@@ -56,12 +48,12 @@ from_zero (negsuc k) h = absurd (omega (arith, ints))
 
 keeps : (p : Problem) (n : ℕ) (k : HeaderKey) (value : List ℕ) → Exactly (number_stated p n k value) (Keeps p n k value)
 unfolding number_stated
-keeps p n key.Name value = passes Name (is_name value) (done 0)
+keeps p n key.Name value = holds Name (done 0)
 keeps p n key.Type value =
     let d = bytes_eq-Decides value (type_text p) in
-    as_ (passes Name (bytes_eq value (type_text p)) (done 0)) (λ y h. (d.0 h.0, h.1)) (λ y h. (d.1 h.0, h.1))
+    as_ (holds Name (done 0)) (λ y h. (d.0 h.0, h.1)) (λ y h. (d.1 h.0, h.1))
 keeps p n key.Blocks value =
-    as_ (then_ (below 64000001 value) (λ blocks. passes Count (blocks == n) (done 0)))
+    as_ (then_ (below 64000001 value) (λ blocks. holds Count (done 0)))
     (λ y h. (subst (EncodesBelow 64000001 value) (eqb-true h.0 n h.2.0) h.1, h.2.1)) (λ y h. (n, h.0, (eq-eqb n n refl, h.1)))
 keeps p n key.Periods value = whole 1 MAX_PERIODS value
 keeps p n key.Destinations value = whole 1 MAX_DESTINATIONS value
@@ -144,42 +136,29 @@ fine_field key.Name = tt
 fine_field key.Type = tt
 fine_field k = omega arith
 
-whole_kept : (k : HeaderKey) (n : ℕ) (r : Result ℤ TextKind) → ((m : ℕ) → number_with n k m ≡ Ok (m / 10 ^ 6))
-    → (r >>= λ m. Ok (unsigned_abs m / 10 ^ 6)) ≡ ((r >>= λ m. Ok (unsigned_abs m)) >>= number_with n k)
-whole_kept k n (Ok m) is = sym (is (unsigned_abs m))
-whole_kept k n (Err kind) is = refl
+step_after : (r : Result ℤ TextKind) (f : ℤ → ℕ) (next : ℕ → Result ℕ TextKind) → ((r >>= λ m. Ok (f m)) >>= next) ≡ (r >>= λ m. next (f m))
+step_after (Ok m) f next = refl
+step_after (Err kind) f next = refl
+
+word_kept : (t : Bool) (next : ℕ → Result ℕ TextKind) → next 0 ≡ Ok 0
+    → (if t then Ok 0 else Err Name) ≡ ((if t then Ok 0 else Err Name) >>= next)
+word_kept true next is = sym is
+word_kept false next is = refl
 
 pub number_taken : (p : Problem) (n : ℕ) (k : HeaderKey) (value : List ℕ)
     → number_stated p n k value ≡ (stated_in p (key_field k) value >>= number_with n k)
 unfolding number_stated below_in
-number_taken p n key.Name value = by (is_name value)
-  where
-    by : (t : Bool) → (if t then Ok 0 else Err Name) ≡ ((if t then Ok 0 else Err Name) >>= number_with n key.Name)
-    by true = refl
-    by false = refl
-number_taken p n key.Type value = by (bytes_eq value (type_text p))
-  where
-    by : (t : Bool) → (if t then Ok 0 else Err Name) ≡ ((if t then Ok 0 else Err Name) >>= number_with n key.Type)
-    by true = refl
-    by false = refl
-number_taken p n key.Blocks value = by (number_in 0 (pos 0) (pos ((MAX_BLOCKS + 1) * 10 ^ 6) -ℤ pos 1) value)
-  where
-    by : (r : Result ℤ TextKind)
-        → ((r >>= λ m. Ok (unsigned_abs m / 10 ^ 6)) >>= λ blocks. if blocks == n then Ok 0 else Err Count)
-        ≡ ((r >>= λ m. Ok (unsigned_abs m)) >>= number_with n key.Blocks)
-    by (Ok m) = refl
-    by (Err kind) = refl
-number_taken p n key.Rate value = by (number_in 6 (pos 0) MAX_RATE value)
-  where
-    by : (r : Result ℤ TextKind) → (r >>= λ m. Ok (unsigned_abs m)) ≡ ((r >>= λ m. Ok (unsigned_abs m)) >>= number_with n key.Rate)
-    by (Ok m) = refl
-    by (Err kind) = refl
-number_taken p n key.Periods value = whole_kept key.Periods n (number_in 0 (pos (1 * 10 ^ 6)) (pos (MAX_PERIODS * 10 ^ 6)) value) (λ m. refl)
-number_taken p n key.Destinations value =
-    whole_kept key.Destinations n (number_in 0 (pos (1 * 10 ^ 6)) (pos (MAX_DESTINATIONS * 10 ^ 6)) value) (λ m. refl)
-number_taken p n key.Resources value =
-    whole_kept key.Resources n (number_in 0 (pos 0) (pos ((MAX_RESOURCES + 1) * 10 ^ 6) -ℤ pos 1) value) (λ m. refl)
-number_taken p n key.General value = whole_kept key.General n (number_in 0 (pos 0) (pos (1 * 10 ^ 6) -ℤ pos 1) value) (λ m. refl)
+number_taken p n key.Name value = word_kept (is_name value) (number_with n key.Name) refl
+number_taken p n key.Type value = word_kept (bytes_eq value (type_text p)) (number_with n key.Type) refl
+number_taken p n key.Blocks value =
+    step_after (number_in 0 (pos 0) (pos ((MAX_BLOCKS + 1) * 10 ^ 6) -ℤ pos 1) value) (λ m. unsigned_abs m / 10 ^ 6)
+    (λ blocks. if blocks == n then Ok 0 else Err Count)
+    ∙ sym (step_after (number_in 0 (pos 0) (pos ((MAX_BLOCKS + 1) * 10 ^ 6) -ℤ pos 1) value) unsigned_abs (number_with n key.Blocks))
+number_taken p n key.Periods value = sym (step_after _ unsigned_abs (number_with n key.Periods))
+number_taken p n key.Destinations value = sym (step_after _ unsigned_abs (number_with n key.Destinations))
+number_taken p n key.Resources value = sym (step_after _ unsigned_abs (number_with n key.Resources))
+number_taken p n key.General value = sym (step_after _ unsigned_abs (number_with n key.General))
+number_taken p n key.Rate value = sym (step_after _ unsigned_abs (number_with n key.Rate))
 
 -- so a property of the stated number is a property of the number from the field's millionths
 pub number_holds : (p : Problem) (n : ℕ) (k : HeaderKey) (value : List ℕ) (field : KeyField) (stated r : Result ℕ TextKind) (m : ℕ)

@@ -25,7 +25,7 @@ use Rattle.minelib_reading.specs.ModelDraft.{ModelDraftView, is_next, is_ready}
 use Rattle.minelib_reading.specs.ModelText.{section_stated}
 use Rattle.minelib_reading.specs.PrecText.{preds_stated}
 use Rattle.minelib_reading.specs.LineFields.{item_in}
-use Rattle.minelib_reading.specs.LineForms.{all_differ, preds_form, preds_with, stands_in}
+use Rattle.minelib_reading.specs.LineForms.{all_differ, preds_form, preds_with, has_id}
 use Rattle.minelib_reading.specs.declared.model.key.Section.{Section}
 use Rattle.minelib_reading.specs.encoded.EncodedItems.{NumbersThen}
 
@@ -33,6 +33,12 @@ below_each : (n : ℕ) (fields : List (List ℕ)) (ids : List ℕ) → AllZip (E
 below_each n [] [] h = All-nil (λ id. id < n)
 below_each n (field ∷ fields) (id ∷ ids) h = All-cons (λ id. id < n) id ids h.0.1 (below_each n fields ids h.1)
 below_each n fields ids h = absurd h
+
+-- after a test for another fault
+unless : {A : Type 0} {r : Result A TextKind} {kind : TextKind} (t : Bool) (other : TextKind) → other ≢ kind → r ≢ Err kind
+    → (if t then Err other else r) ≢ Err kind
+unless {A} {r} {kind} true other differs never e = differs (other_fault other kind e)
+unless {A} {r} {kind} false other differs never e = never e
 
 -- a number has only a number's faults
 module _ (kind : TextKind) (no_number : Number ≢ kind) (no_fine : TooFine ≢ kind) (no_range : Range ≢ kind) where
@@ -99,13 +105,8 @@ pub order_fails : (n own : ℕ) (fields : List (List ℕ))
 order_fails n own fields =
     numbers_then Order (λ e. absurd cc) (λ e. absurd cc) (λ e. absurd cc) n own fields (λ e. absurd cc) (λ id k ids.
     fails_here _ Order (λ e. eqb-false id own (not-true (id == own) e)) (λ differs. rw (ne_eqb id own differs) refl)
-    (never (k == length ids) (stands_in ids own || not (all_differ ids)) ids))
-  where
-    never : (counts twice : Bool) (ids : List ℕ)
-        → ◌≢◌ {A = Result (List ℕ) TextKind} (if not counts then Err Count else (if twice then Err Twice else Ok ids)) (Err Order)
-    never false twice ids e = absurd cc
-    never true true ids e = absurd cc
-    never true false ids e = absurd cc
+    (unless (not (k == length ids)) Count (λ e. absurd cc)
+    (unless (has_id ids own || not (all_differ ids)) Twice (λ e. absurd cc) (λ e. absurd cc))))
 
 pub count_fails : (n own : ℕ) (fields : List (List ℕ))
     → Fails (preds_stated n own fields) Count (NumbersThen n fields (λ id k ids. (id ≡ own) × (k ≢ length ids)))
@@ -113,11 +114,7 @@ count_fails n own fields =
     numbers_then Count (λ e. absurd cc) (λ e. absurd cc) (λ e. absurd cc) n own fields (λ e. absurd cc) (λ id k ids.
     fails_after Order (λ e. absurd cc) (λ e. eqb-true id own (not-false (id == own) e)) (λ is. rw (eq-eqb id own is) refl)
     (fails_here _ Count (λ e. eqb-false k (length ids) (not-true (k == length ids) e)) (λ differs. rw (ne_eqb k (length ids) differs) refl)
-    (never (stands_in ids own || not (all_differ ids)) ids)))
-  where
-    never : (twice : Bool) (ids : List ℕ) → ◌≢◌ {A = Result (List ℕ) TextKind} (if twice then Err Twice else Ok ids) (Err Count)
-    never true ids e = absurd cc
-    never false ids e = absurd cc
+    (unless (has_id ids own || not (all_differ ids)) Twice (λ e. absurd cc) (λ e. absurd cc))))
 
 pub twice_fails : (n own : ℕ) (fields : List (List ℕ))
     → Fails (preds_stated n own fields) Twice
@@ -125,7 +122,7 @@ pub twice_fails : (n own : ℕ) (fields : List (List ℕ))
 twice_fails n own fields = record { reported = λ e. to (steps.reported e); back = λ h. steps.back (from h) }
   where
     Tested : Type 0
-    Tested = NumbersThen n fields (λ id k ids. (id ≡ own) × ((k ≡ length ids) × ((stands_in ids own || not (all_differ ids)) ≡ true)))
+    Tested = NumbersThen n fields (λ id k ids. (id ≡ own) × ((k ≡ length ids) × ((has_id ids own || not (all_differ ids)) ≡ true)))
 
     Twofold : Type 0
     Twofold = NumbersThen n fields (λ id k ids. (id ≡ own) × ((k ≡ length ids) × ¬ (ArePredsOf own n ids)))
@@ -137,13 +134,13 @@ twice_fails n own fields = record { reported = λ e. to (steps.reported e); back
         (fails_after Count (λ e. absurd cc) (λ e. eqb-true k (length ids) (not-false (k == length ids) e)) (λ is. rw (eq-eqb k (length ids) is) refl)
         (fails_here (Ok ids) Twice (λ e. e) (λ e. e) (λ e. absurd cc))))
 
-    passes : (ids : List ℕ) → ArePredsOf own n ids → (stands_in ids own || not (all_differ ids)) ≡ true → ⊥
+    passes : (ids : List ℕ) → ArePredsOf own n ids → (has_id ids own || not (all_differ ids)) ≡ true → ⊥
     passes ids are fails = let p = preds_pass own n ids are in let none = rw (p.0, p.1) at fails in cc
 
-    some_fails : (ids : List ℕ) → All (λ id. id < n) ids → ¬ (ArePredsOf own n ids) → (stands_in ids own || not (all_differ ids)) ≡ true
-    some_fails ids low never = by (stands_in ids own) (all_differ ids) refl refl
+    some_fails : (ids : List ℕ) → All (λ id. id < n) ids → ¬ (ArePredsOf own n ids) → (has_id ids own || not (all_differ ids)) ≡ true
+    some_fails ids low never = by (has_id ids own) (all_differ ids) refl refl
       where
-        by : (stands differ : Bool) → stands_in ids own ≡ stands → all_differ ids ≡ differ → (stands || not differ) ≡ true
+        by : (stands differ : Bool) → has_id ids own ≡ stands → all_differ ids ≡ differ → (stands || not differ) ≡ true
         by true differ e g = refl
         by false false e g = refl
         by false true e g = absurd (never (passed_preds own n ids low e g))
@@ -161,25 +158,17 @@ module _ (d : ModelDraftView) (section : Section) (fields : List (List ℕ)) whe
   pub key_fails : Fails (section_stated d section fields) Key (is_next d.section section ≡ false)
   unfolding section_stated
   key_fails =
-      fails_here _ Key (not-true (is_next d.section section)) (λ e. rw e refl) (never (length fields == 0) (is_ready d d.section))
-    where
-      never : (none ready : Bool) → ◌≢◌ {A = Result ModelDraftView TextKind}
-          (if not none then Err Fields else (if not ready then Err Missing else Ok (record d { section = section }))) (Err Key)
-      never false ready e = absurd cc
-      never true false e = absurd cc
-      never true true e = absurd cc
+      fails_here _ Key (not-true (is_next d.section section)) (λ e. rw e refl)
+      (unless (not (length fields == 0)) Fields (λ e. absurd cc)
+      (unless (not (is_ready d d.section)) Missing (λ e. absurd cc) (λ e. absurd cc)))
 
   pub fields_fails : Fails (section_stated d section fields) Fields ((is_next d.section section ≡ true) × (fields ≢ []))
   unfolding section_stated
   fields_fails =
       fails_after Key (λ e. absurd cc) (not-false (is_next d.section section)) (λ e. rw e refl)
       (fails_here _ Fields (λ e none. eqb-false (length fields) 0 (not-true (length fields == 0) e) (ap length none))
-      (λ some. rw (ne_eqb (length fields) 0 (λ e. some (nil_from_length fields e))) refl) (never (is_ready d d.section)))
-    where
-      never : (ready : Bool) → ◌≢◌ {A = Result ModelDraftView TextKind}
-          (if not ready then Err Missing else Ok (record d { section = section })) (Err Fields)
-      never false e = absurd cc
-      never true e = absurd cc
+      (λ some. rw (ne_eqb (length fields) 0 (λ e. some (nil_from_length fields e))) refl)
+      (unless (not (is_ready d d.section)) Missing (λ e. absurd cc) (λ e. absurd cc)))
 
   pub missing_fails : Fails (section_stated d section fields) Missing
       ((is_next d.section section ≡ true) × ((fields ≡ []) × (is_ready d d.section ≡ false)))

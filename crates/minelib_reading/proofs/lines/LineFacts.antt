@@ -1,7 +1,8 @@
 -- A line states exactly what its fields encode.
-use Rattle.std.specs.Prelude.{Bool, List, Ok, ℕ, ℤ, ◌%◌, ◌*◌, ◌/◌, ◌^◌, ◌||◌, not}
+use Rattle.std.specs.Prelude.{List, Ok, ℕ, ℤ, ◌%◌, ◌*◌, ◌/◌, ◌^◌}
 use Rattle.std.proofs.Common.{[], ap, arith, false, length, refl, subst, sym, true, ◌+◌, ◌∙◌, ◌∷◌, ◌≡◌, ◌≤◌}
 use Rattle.std.proofs.lemmas.List.{length-map}
+use Rattle.std.proofs.lemmas.Bool.{not-false, or_parts}
 use Rattle.std.proofs.lemmas.Bool.Decides.{nat_tests}
 use Rattle.std.specs.List.{list_any}
 use Rattle.pit_units.proofs.Exactly.{Exactly, as_, counted, done, tested}
@@ -21,7 +22,7 @@ use Rattle.minelib_reading.proofs.lines.FormFacts.{Makes, each_fits, item_exact,
 use Rattle.minelib_reading.proofs.lines.PrecTests.{passed_preds, preds_pass}
 use Rattle.minelib_reading.specs.BlockText.{block_stated}
 use Rattle.minelib_reading.specs.LineFields.{Below, Decimal, Field, fields_by, item_in, letter_text}
-use Rattle.minelib_reading.specs.LineForms.{all_differ, block_form, bound_form, coef_form, first_of, letter_of, limit_form, preds_form, second_of, stands_in, values_form}
+use Rattle.minelib_reading.specs.LineForms.{all_differ, block_form, bound_form, coef_form, first_of, letter_of, limit_form, preds_form, second_of, has_id, values_form}
 use Rattle.minelib_reading.specs.ModelKeys.{is_colon}
 use Rattle.minelib_reading.specs.ModelText.{coef_stated, limit_stated, limit_width, values_stated}
 use Rattle.minelib_reading.specs.PrecText.{preds_stated}
@@ -68,18 +69,13 @@ block_exact before fields =
 -- predecessors
 preds_makes : (n own : ℕ) → Makes (preds_form n own) (ArePredsOf own n)
 preds_makes n own id _ k _ ids low = as_ (counted Order id own (counted Count k (length ids)
-    (tested Twice (neither (stands_in ids own) (all_differ ids)) (λ h. rw (h.0, h.1) refl) (done ids)))) to from
+    (tested Twice (λ e. let p = or_parts _ _ e in (p.0, not-false (all_differ ids) p.1)) (λ h. rw (h.0, h.1) refl) (done ids)))) to from
   where
     Tests : List ℕ → Type 0
-    Tests all = (id ≡ own) × ((k ≡ length ids) × (((stands_in ids own ≡ false) × (all_differ ids ≡ true)) × (all ≡ ids)))
+    Tests all = (id ≡ own) × ((k ≡ length ids) × (((has_id ids own ≡ false) × (all_differ ids ≡ true)) × (all ≡ ids)))
 
     Parts : List ℕ → Type 0
     Parts all = (all ≡ ids) × ((length all ≡ k) × ((own ≡ id) × ArePredsOf own n all))
-
-    neither : (s t : Bool) → (s || not t) ≡ false → (s ≡ false) × (t ≡ true)
-    neither false true e = (refl, refl)
-    neither false false e = absurd cc
-    neither true t e = absurd cc
 
     to : (all : List ℕ) → Tests all → Parts all
     to all (is_own, (counts, (differ, is))) =

@@ -1,20 +1,17 @@
 -- What a line of a model file that states something encodes, and how it changes the content so far.
-use Rattle.std.specs.Prelude.{Bool, Err, IsOk, List, Ok, Result, if◌then◌else◌, not, ℕ, ℤ, ◌||◌}
+use Rattle.std.specs.Prelude.{Bool, Err, IsOk, List, Ok, Result, if◌then◌else◌, not, ℕ}
 use Rattle.std.proofs.Common.{[], arith, false, length, refl, subst, sym, true, ◌++◌, ◌∷◌, ◌≡◌}
-use Rattle.std.proofs.lemmas.Bool.{not-false}
+use Rattle.std.proofs.lemmas.Bool.{not-false, or_parts}
 use Rattle.std.proofs.lemmas.List.{nil_from_length}
-use Rattle.pit_units.proofs.Exactly.{Exactly, counted, done, tested, then_}
+use Rattle.pit_units.proofs.Exactly.{Exactly, as_, counted, done, holds as passes, tested, then_}
 use Rattle.plan_parts.specs.PlanInvariant.{is_turned, stands_before}
-use Rattle.plan_parts.specs.declared.limit.Limit.{Limit}
-use Rattle.mine_instance.specs.Order.{coef_before}
-use Rattle.mine_instance.specs.declared.coefs.coef.Coef.{Coef}
 use Rattle.text_lines.specs.StatedFields.{field_at}
 use Rattle.text_lines.specs.declared.text_fault.TextKind.{TextKind}
 use Rattle.text_lines.specs.declared.text_fault.TextKind.TheVariants.{Fields, Key, Missing, Order, Twice}
 use Rattle.minelib_lines.specs.declared.header_key.HeaderKey.{HeaderKey}
 use Rattle.minelib_lines.specs.declared.header_key.HeaderKey.TheVariants as key
 use Rattle.minelib_reading.proofs.keys.HeaderFacts.{name_kept, number_kept}
-use Rattle.minelib_reading.proofs.keys.KeyNumbers.{number_back, number_reported, passes, reported}
+use Rattle.minelib_reading.proofs.keys.KeyNumbers.{number_back, number_reported, reported}
 use Rattle.minelib_reading.proofs.lines.LineFacts.{coef_exact, limit_exact, values_exact}
 use Rattle.minelib_reading.specs.HeaderNumbers.{count_in, is_given, with_key}
 use Rattle.minelib_reading.specs.ModelDraft.{ModelDraftView, is_after, is_heading, is_next, is_ready, last_of, name_with}
@@ -23,8 +20,7 @@ use Rattle.minelib_reading.specs.ModelText.{item_stated, key_stated, section_sta
 use Rattle.minelib_reading.specs.StatedModel.{header_stated}
 use Rattle.minelib_reading.specs.declared.model.key.Section.{Section}
 use Rattle.minelib_reading.specs.declared.model.key.Section.TheVariants.{Coefs, Limits, Objective}
-use Rattle.minelib_reading.specs.encoded.EncodedItems.{EncodesCoef, EncodesLimit, EncodesValues}
-use Rattle.minelib_reading.specs.encoded.EncodedAdditions.{KeepsOthers, ReadsKey, StatesKey}
+use Rattle.minelib_reading.specs.encoded.EncodedAdditions.{AddsItem, KeepsOthers, ReadsKey, StatesKey}
 use Rattle.minelib_reading.specs.encoded.EncodedModel.{EncodesKey}
 
 -- a header key with these fields after its colon
@@ -117,65 +113,21 @@ section_step d next section fields e =
 
 -- a line adds the values of a block, a coefficient or a limit if and only if its fields encode it, and it follows the last one
 module _ (d : ModelDraftView) (fields : List (List ℕ)) where
-  values_added : Exactly (item_stated d Objective fields)
-      (λ next. (vs : List ℤ) × EncodesValues d.blocks (count_in d.header key.Destinations) (length d.values) fields vs
-      × (next ≡ record d { values = d.values ++ vs ∷ [] }))
+  pub values_added : Exactly (item_stated d Objective fields) (AddsItem d Objective fields)
   values_added =
-      then_ (values_exact d.blocks (count_in d.header key.Destinations) (length d.values) fields) (λ vs. done (record d { values = d.values ++ vs ∷ [] }))
+      as_ (then_ (values_exact d.blocks (count_in d.header key.Destinations) (length d.values) fields) (λ vs.
+      done (record d { values = d.values ++ vs ∷ [] })))
+      (λ next h. (h.0, h.2, h.1)) (λ next h. (h.0, h.2, h.1))
 
-  coef_added : Exactly (item_stated d Coefs fields)
-      (λ next. (c : Coef) × EncodesCoef d.problem d.blocks (count_in d.header key.Destinations) (count_in d.header key.Resources) fields c
-      × ((is_after coef_before (last_of d.coefs) c ≡ true) × (next ≡ record d { coefs = d.coefs ++ c ∷ [] })))
+  pub coef_added : Exactly (item_stated d Coefs fields) (AddsItem d Coefs fields)
   coef_added =
-      then_ (coef_exact d.problem d.blocks (count_in d.header key.Destinations) (count_in d.header key.Resources) fields) (λ c.
-      passes Order (is_after coef_before (last_of d.coefs) c) (done (record d { coefs = d.coefs ++ c ∷ [] })))
+      as_ (then_ (coef_exact d.problem d.blocks (count_in d.header key.Destinations) (count_in d.header key.Resources) fields) (λ c.
+      passes Order (done (record d { coefs = d.coefs ++ c ∷ [] })))) (λ next h. (h.0, h.2.1, h.1, h.2.0)) (λ next h. (h.0, h.2, (h.3, h.1)))
 
-  limit_added : Exactly (item_stated d Limits fields)
-      (λ next. (l : Limit) × EncodesLimit (count_in d.header key.Resources) (count_in d.header key.Periods) fields l
-      × (((is_turned l.bound ≡ false) × (is_after stands_before (last_of d.limits) l ≡ true)) × (next ≡ record d { limits = d.limits ++ l ∷ [] })))
+  pub limit_added : Exactly (item_stated d Limits fields) (AddsItem d Limits fields)
   limit_added =
-      then_ (limit_exact (count_in d.header key.Resources) (count_in d.header key.Periods) fields) (λ l.
-      tested Order (neither (is_turned l.bound) (is_after stands_before (last_of d.limits) l)) (λ h. rw (h.0, h.1) refl)
-      (done (record d { limits = d.limits ++ l ∷ [] })))
-    where
-      neither : (s t : Bool) → (s || not t) ≡ false → (s ≡ false) × (t ≡ true)
-      neither false true e = (refl, refl)
-      neither false false e = absurd cc
-      neither true t e = absurd cc
-
-  pub values_step : (next : ModelDraftView) → item_stated d Objective fields ≡ Ok next
-      → (vs : List ℤ) × (next ≡ record d { values = d.values ++ vs ∷ [] })
-      × EncodesValues d.blocks (count_in d.header key.Destinations) (length d.values) fields vs
-  values_step next e = let s = values_added.reported next e in (s.0, s.2, s.1)
-
-  pub values_back : (next : ModelDraftView)
-      → (vs : List ℤ) × (next ≡ record d { values = d.values ++ vs ∷ [] })
-      × EncodesValues d.blocks (count_in d.header key.Destinations) (length d.values) fields vs
-      → item_stated d Objective fields ≡ Ok next
-  values_back next h = values_added.back next (h.0, h.2, h.1)
-
-  pub coef_step : (next : ModelDraftView) → item_stated d Coefs fields ≡ Ok next
-      → (c : Coef) × (next ≡ record d { coefs = d.coefs ++ c ∷ [] })
-      × EncodesCoef d.problem d.blocks (count_in d.header key.Destinations) (count_in d.header key.Resources) fields c
-      × (is_after coef_before (last_of d.coefs) c ≡ true)
-  coef_step next e = let s = coef_added.reported next e in (s.0, s.2.1, s.1, s.2.0)
-
-  pub coef_back : (next : ModelDraftView)
-      → (c : Coef) × (next ≡ record d { coefs = d.coefs ++ c ∷ [] })
-      × EncodesCoef d.problem d.blocks (count_in d.header key.Destinations) (count_in d.header key.Resources) fields c
-      × (is_after coef_before (last_of d.coefs) c ≡ true)
-      → item_stated d Coefs fields ≡ Ok next
-  coef_back next h = coef_added.back next (h.0, h.2, (h.3, h.1))
-
-  pub limit_step : (next : ModelDraftView) → item_stated d Limits fields ≡ Ok next
-      → (l : Limit) × (next ≡ record d { limits = d.limits ++ l ∷ [] })
-      × EncodesLimit (count_in d.header key.Resources) (count_in d.header key.Periods) fields l × (is_turned l.bound ≡ false)
-      × (is_after stands_before (last_of d.limits) l ≡ true)
-  limit_step next e = let s = limit_added.reported next e in (s.0, s.2.1, s.1, s.2.0.0, s.2.0.1)
-
-  pub limit_back : (next : ModelDraftView)
-      → (l : Limit) × (next ≡ record d { limits = d.limits ++ l ∷ [] })
-      × EncodesLimit (count_in d.header key.Resources) (count_in d.header key.Periods) fields l × (is_turned l.bound ≡ false)
-      × (is_after stands_before (last_of d.limits) l ≡ true)
-      → item_stated d Limits fields ≡ Ok next
-  limit_back next h = limit_added.back next (h.0, h.2, ((h.3, h.4), h.1))
+      as_ (then_ (limit_exact (count_in d.header key.Resources) (count_in d.header key.Periods) fields) (λ l.
+      tested {T = (is_turned l.bound ≡ false) × (is_after stands_before (last_of d.limits) l ≡ true)} Order
+      (λ e. let p = or_parts _ _ e in (p.0, not-false (is_after stands_before (last_of d.limits) l) p.1)) (λ h. rw (h.0, h.1) refl)
+      (done (record d { limits = d.limits ++ l ∷ [] }))))
+      (λ next h. (h.0, h.2.1, h.1, h.2.0.0, h.2.0.1)) (λ next h. (h.0, h.2, ((h.3, h.4), h.1)))

@@ -28,7 +28,7 @@ abbrev pub EncodePreds : ℕ → List ℕ → List (List ℕ) → Type 0
 EncodePreds n text lists = (length lists ≡ n) × AreLines (EncodesPredsLine n) 0 (lines_in text) lists
 
 -- each line encodes the predecessors of a block, but the number of lines is not n
-pub record LacksLines (n : ℕ) (text : List ℕ) (fault : LineFault) : Type 0 where
+pub record MissesLines (n : ℕ) (text : List ℕ) (fault : LineFault) : Type 0 where
   pub lists : List (List ℕ)
   pub encoded : AreLines (EncodesPredsLine n) 0 (lines_in text) lists
   pub other_count : length lists ≢ n

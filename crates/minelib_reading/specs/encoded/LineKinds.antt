@@ -30,8 +30,8 @@ abbrev pub HasFields : ModelDraftView → Section → List (List ℕ) → Type 0
 HasFields d section fields = (is_next d.section section ≡ true) × (fields ≢ [])
 
 -- no field follows, but something required before the key is missing
-abbrev pub LacksBefore : ModelDraftView → Section → List (List ℕ) → Type 0
-LacksBefore d section fields = (is_next d.section section ≡ true) × ((fields ≡ []) × (is_ready d d.section ≡ false))
+abbrev pub MissesRequired : ModelDraftView → Section → List (List ℕ) → Type 0
+MissesRequired d section fields = (is_next d.section section ≡ true) × ((fields ≡ []) × (is_ready d d.section ≡ false))
 
 -- a line of predecessors, or of a section's key, has a fault of this kind if and only if this holds
 abbrev pub PredsFail : TextKind → (ℕ → ℕ → List (List ℕ) → Type 0) → Type 0

@@ -1,11 +1,11 @@
--- How contracts see counted values as lists, and the maximum number of coefficients.
-use Rattle.std.specs.Prelude.{ℕ, ◌+◌, ◌*◌, List, ℤ, map, Option, Some, None}
+-- How contracts see counted rows as lists, and the maximum number of coefficients.
+use Rattle.std.specs.Prelude.{ℕ, ◌+◌, ◌*◌, List, map, Option, Some, None}
 use Rattle.std.specs.Global.{Vec}
 use Rattle.mine_instance.specs.declared.coefs.coef.Coef.{Coef}
 
--- the values of each row
-abbrev pub values_in_rows : List (Vec ℤ) → List (List ℤ)
-values_in_rows rows = map (λ row. row.items) rows
+-- the items of each row
+abbrev pub lists_in : {A : Type 0} → List (Vec A) → List (List A)
+lists_in rows = map (λ row. row.items) rows
 
 -- the largest number of coefficients up to one: places rise with the order, and there are at most 256 destinations and 256
 -- resources

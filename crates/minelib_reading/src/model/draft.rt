@@ -5,7 +5,7 @@ ghost use Rattle.std.specs.List.{list_any};
 ghost use Rattle.mine_instance.specs.cpit.CpitInvariant.{IsCpit};
 ghost use Rattle.minelib_reading.specs.Denotes.{cpit_read, instance_read};
 ghost use Rattle.minelib_reading.specs.HeaderNumbers.{count_in};
-ghost use Rattle.minelib_reading.specs.ModelDraft.{blank_model, is_ready, is_whole, name_with};
+ghost use Rattle.minelib_reading.specs.ModelDraft.{blank_model, is_ready, has_all_parts, name_with};
 ghost use Rattle.minelib_reading.specs.ModelText.{finish_model, item_stated, key_stated, keyed_stated, line_stated, section_stated};
 ghost use Rattle.minelib_reading.specs.ModelKeys.{is_colon};
 ghost use Rattle.minelib_reading.specs.inner.ModelParts.{is_name_for};
@@ -17,7 +17,7 @@ ghost use Rattle.text_lines.specs.TextLines.{fields_of};
 ghost use Rattle.plan_parts.specs.Name.{is_name};
 ghost use Rattle.plan_parts.specs.declared.ranges.TheConstants.{MAX_BLOCKS};
 
-use crate::kept::KeptItems;
+use crate::kept::StoredItems;
 use crate::model::header::{blank_header, number_of_key};
 use crate::model::items::{coef_of_line, values_of_line};
 use crate::model::key::{Header, ModelKey, Section};
@@ -121,7 +121,7 @@ impl<T: TakeItems + Drop> ModelDraft<T> {
     pub fn finish(self, end: u64) -> Result<ModelDraft<T>, OrMemory<LineFault>>
         ensures { Gives (λ x. x) result (finish_model end self) }
     {
-        if self.is_whole() {
+        if self.has_all_parts() {
             Ok(self)
         } else {
             Err(OrMemory::Fault(LineFault {
@@ -147,8 +147,8 @@ impl<T: TakeItems> ModelDraft<T> {
         self.limits.len()
     }
 
-    fn is_whole(&self) -> bool
-        ensures { result ≡ is_whole self.now }
+    fn has_all_parts(&self) -> bool
+        ensures { result ≡ has_all_parts self.now }
     {
         self.header.is_complete()
             && self.items.values_len() == self.blocks
@@ -303,7 +303,7 @@ impl<T: TakeItems> ModelDraft<T> {
     }
 }
 
-impl ModelDraft<KeptItems> {
+impl ModelDraft<StoredItems> {
     /// Makes the instance of this file with these blocks and predecessors. The draft must have a NAME.
     pub fn into_instance(self, blocks: Blocks, preds: Preds) -> Instance
         requires { is_name self.name ≡ true }
@@ -336,7 +336,7 @@ impl ModelDraft<KeptItems> {
         let rate = self.header.count(HeaderKey::Rate);
         let periods = self.periods();
         let resources = self.resources();
-        let KeptItems { values, coefs } = self.items;
+        let StoredItems { values, coefs } = self.items;
         Cpit::new(
             self.name.unwrap(),
             Dec::new(i128::from(rate)).unwrap(),

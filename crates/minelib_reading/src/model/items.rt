@@ -96,6 +96,7 @@ fn read_decimals(line: &[u8], count: usize, row: &mut Vec<Dec>) -> Result<(), Or
 ///
 /// `Fields`, or the kind of the first invalid field.
 #[inline(always)]
+#[tactic(auto, using(crate::proofs::counts::LaterLines::coef_counted, crate::proofs::counts::LaterLines::coef_kind))]
 pub fn coef_of_line(
     problem: Problem,
     blocks: usize,

@@ -33,6 +33,7 @@ pub enum LimitLetter {
 /// # Errors
 ///
 /// `Fields`, or the kind of the first invalid field.
+#[tactic(auto, using(crate::proofs::counts::LaterLines::limit_counted, crate::proofs::counts::LaterLines::limit_kind))]
 pub fn limit_of_line(resources: u8, periods: u8, line: &[u8]) -> Result<Limit, TextKind>
     ensures { result ≡ limit_stated resources periods (fields_of line.now) }
 {

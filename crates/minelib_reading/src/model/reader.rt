@@ -5,7 +5,7 @@ ghost use Rattle.minelib_reading.specs.ModelText.{model_in};
 ghost use Rattle.pit_units.specs.OrMemory.{Gives};
 ghost use Rattle.plan_parts.specs.declared.ranges.TheConstants.{MAX_BLOCKS};
 
-use crate::kept::KeptItems;
+use crate::kept::StoredItems;
 use crate::model::draft::ModelDraft;
 use minelib_lines::problem::Problem;
 use pit_units::OrMemory;
@@ -24,11 +24,11 @@ pub fn read_model(
     problem: Problem,
     blocks: usize,
     text: &[u8],
-) -> Result<ModelDraft<KeptItems>, OrMemory<LineFault>>
+) -> Result<ModelDraft<StoredItems>, OrMemory<LineFault>>
     requires { blocks ≤ MAX_BLOCKS }
     ensures { Gives (λ x. x) result (model_in problem blocks text.now) }
 {
-    let mut draft = ModelDraft::new(alloc, problem, blocks, KeptItems::new(alloc));
+    let mut draft = ModelDraft::new(alloc, problem, blocks, StoredItems::new(alloc));
     let end = read_lines(&mut draft, text)?;
     draft.finish(end)
 }

@@ -79,6 +79,7 @@ impl<'a, C: CoefList, V: ValueList> Parted for CoefLines<'a, C, V> {
 
 // Returns the coefficients from a position on that are available together, at most `most`.
 #[inline(always)]
+#[tactic(auto, using(crate::proofs::PrefixGroup::prefix_part))]
 fn group_within<C: CoefList>(coefs: &C, from: usize, most: usize) -> CoefGroup<'_>
     requires there { from < length (C.list coefs.now) }
     requires some { 0 < most }
@@ -256,6 +257,7 @@ impl Line for Coef {
 
     ghost kept = { λ c. IsInDecimalRange c.v };
 
+    #[tactic(auto, using(std::proofs::Common::append_assoc))]
     fn append(
         &self,
         _index: usize,

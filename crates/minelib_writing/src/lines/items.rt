@@ -52,6 +52,7 @@ fn write_place(scratch: &mut Scratch, at: usize, block: &Block) -> usize
 }
 
 #[inline(always)]
+#[tactic(auto, using(pit_units::proofs::Text::whole_millionths))]
 fn write_ore(scratch: &mut Scratch, at: usize, block: &Block) -> usize
     requires { (56 ≤ at) × (at ≤ LINE_END) }
     ensures text { line_in scratch.new result ≡ 32 ∷ (shortest (pos (block.now.kg * 1000))
@@ -69,6 +70,7 @@ impl Line for Limit {
 
     ghost kept = { λ l. HasDecimals l.bound };
 
+    #[tactic(auto, using(crate::proofs::ByKeys::limit_text, std::proofs::Common::append_assoc))]
     fn append(
         &self,
         _index: usize,
@@ -109,6 +111,7 @@ impl Line for Dec {
 
     ghost kept = { IsInDecimalRange };
 
+    #[tactic(auto, using(std::proofs::Common::append_assoc))]
     fn append(
         &self,
         index: usize,

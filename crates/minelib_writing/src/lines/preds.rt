@@ -1,7 +1,7 @@
 //! The lines of predecessors, one for each block.
 
 ghost use Rattle.std.specs.Prelude.{◌≡◌, ◌+◌, ◌<◌, ◌≤◌, ◌^◌, ◌++◌, ◌∷◌, [], All, length, slice_index_or, sum_by, IfOk, OnOk};
-ghost use Rattle.precedence.specs.IdRuns.{ids_of};
+ghost use Rattle.precedence.specs.IdRanges.{ids_of};
 ghost use Rattle.minelib_lines.specs.Lines.{line_of, lines_from, text_of};
 ghost use Rattle.minelib_writing.specs.Written.{prec_line};
 ghost use Rattle.minelib_writing.specs.inner.Parts.{line_of_preds};
@@ -13,30 +13,11 @@ use crate::id_text::IdText;
 use devices::sinks::sink::Sink;
 use devices::sinks::slices::flush_full;
 use devices::sinks::write_fault::WriteFault;
-use precedence::{IdRun, LentLists, MadeLists, PredLists};
+use precedence::{IdRange, MadeLists};
 use std::alloc::{AllocError, Global};
 
-/// Writes the line of each block after the bytes that the buffer holds. Requests the ranges of a block when its line is written. `texts`
-/// has the texts of the identifiers of the blocks and of their predecessors.
-pub fn write_preds<S: Sink, P: PredLists>(
-    alloc: Global,
-    sink: &mut S,
-    buffer: &mut Vec<u8>,
-    preds: &P,
-    texts: &IdText,
-) -> Result<(), WriteFault>
-    requires few { length (P.lists preds.now) ≤ MAX_BLOCKS }
-    requires own { length (P.lists preds.now) ≤ texts.now }
-    requires preds { All (λ ids. All (λ id. id < texts.now) ids) (P.lists preds.now) }
-    ensures { WritesOn (text_of (lines_from prec_line 0 (P.lists preds.now)))
-        buffer.old.items buffer.new.items (S.state sink.old) (S.state sink.new) result }
-{
-    let mut arcs = 0;
-    let mut lent = LentLists { lent: preds };
-    write_counted(alloc, sink, buffer, &mut lent, texts, &mut arcs)
-}
-
-/// Writes the lines of lazily computed lists like `write_preds`, and counts the predecessors of all blocks in `arcs`.
+/// Writes the line of each block after the bytes that the buffer holds, and counts the predecessors of all blocks in `arcs`. Requests the
+/// ranges of a block when its line is written. `texts` has the texts of the identifiers of the blocks and of their predecessors.
 pub fn write_counted<S: Sink, M: MadeLists>(
     alloc: Global,
     sink: &mut S,
@@ -53,9 +34,9 @@ pub fn write_counted<S: Sink, M: MadeLists>(
         buffer.old.items buffer.new.items (S.state sink.old) (S.state sink.new) result }
     ensures counted { OnOk result (arcs.new ≡ sum_by length (M.lists preds.old)) }
 {
-    let mut runs = Vec::new(alloc);
+    let mut ranges = Vec::new(alloc);
     for id in 0..preds.count() {
-        write_line(sink, buffer, preds, id as u32, texts, &mut runs, arcs)?;
+        write_line(sink, buffer, preds, id as u32, texts, &mut ranges, arcs)?;
     }
     Ok(())
 }
@@ -68,7 +49,7 @@ fn write_line<S: Sink, M: MadeLists>(
     preds: &mut M,
     id: u32,
     texts: &IdText,
-    runs: &mut Vec<IdRun>,
+    ranges: &mut Vec<IdRange>,
     arcs: &mut u128,
 ) -> Result<(), WriteFault>
     requires block { id < length (M.lists preds.old) }
@@ -82,7 +63,7 @@ fn write_line<S: Sink, M: MadeLists>(
         (arcs.new ≡ arcs.old + length (slice_index_or (M.lists preds.old) id [])) }
     ensures countable { OnOk result (length (slice_index_or (M.lists preds.old) id []) < 2 ^ 63) }
 {
-    *arcs += u128::from(append_line(buffer, preds, id, texts, runs)?);
+    *arcs += u128::from(append_line(buffer, preds, id, texts, ranges)?);
     flush_full(sink, buffer)?;
     Ok(())
 }
@@ -93,7 +74,7 @@ fn append_line<M: MadeLists>(
     preds: &mut M,
     id: u32,
     texts: &IdText,
-    runs: &mut Vec<IdRun>,
+    ranges: &mut Vec<IdRange>,
 ) -> Result<u64, AllocError>
     requires block { id < length (M.lists preds.old) }
     requires own { id < texts.now }
@@ -104,40 +85,40 @@ fn append_line<M: MadeLists>(
     ensures count { IfOk result (λ n. n ≡ length (slice_index_or (M.lists preds.old) id [])) }
     ensures countable { IfOk result (λ n. n < 2 ^ 63) }
 {
-    runs.clear();
-    preds.add_runs(runs, id)?;
-    append_preds(out, id, runs.as_slice(), texts)
+    ranges.clear();
+    preds.add_ranges(ranges, id)?;
+    append_preds(out, id, ranges.as_slice(), texts)
 }
 
 fn append_preds(
     out: &mut Vec<u8>,
     id: u32,
-    runs: &[IdRun],
+    ranges: &[IdRange],
     texts: &IdText,
 ) -> Result<u64, AllocError>
     requires own { id < texts.now }
-    requires preds { All (λ pred. pred < texts.now) (ids_of runs.now) }
-    requires countable { length (ids_of runs.now) < 2 ^ 63 }
+    requires preds { All (λ pred. pred < texts.now) (ids_of ranges.now) }
+    requires countable { length (ids_of ranges.now) < 2 ^ 63 }
     ensures text { OnOk result (out.new.items
-        ≡ out.old.items ++ (line_of (prec_line id (ids_of runs.now)) ++ 10 ∷ [])) }
-    ensures count { IfOk result (λ n. n ≡ length (ids_of runs.now)) }
+        ≡ out.old.items ++ (line_of (prec_line id (ids_of ranges.now)) ++ 10 ∷ [])) }
+    ensures count { IfOk result (λ n. n ≡ length (ids_of ranges.now)) }
 {
-    let count = count_of(runs);
+    let count = count_of(ranges);
     texts.append_one(out, id)?;
     append_field(out, count)?;
-    texts.append(out, runs)?;
+    texts.append(out, ranges)?;
     out.push(b'\n')?;
     Ok(count)
 }
 
 /// Returns the number of identifiers in the ranges.
-pub fn count_of(runs: &[IdRun]) -> u64
-    requires { length (ids_of runs.now) < 2 ^ 63 }
-    ensures { result ≡ length (ids_of runs.now) }
+pub fn count_of(ranges: &[IdRange]) -> u64
+    requires { length (ids_of ranges.now) < 2 ^ 63 }
+    ensures { result ≡ length (ids_of ranges.now) }
 {
     let mut count = 0;
-    for run in runs {
-        count += u64::from(run.len);
+    for range in ranges {
+        count += u64::from(range.len);
     }
     count
 }

@@ -39,10 +39,12 @@ impl<'a, V: ValueList> Parted for ValueLines<'a, V> {
 
     ghost whole = { λ s. lines_whole (lines_from value_line 0 (V.list s.values.now)) };
 
+    #[tactic(auto, using(crate::proofs::LineFacts::line_parts_count))]
     fn len(&self) -> usize {
         self.values.len()
     }
 
+    #[tactic(auto, using(crate::proofs::LineFacts::line_parts_count))]
     fn append(
         &self,
         index: usize,
@@ -125,10 +127,12 @@ impl<'a, V: ValueList> Parted for LargestLines<'a, V> {
 
     ghost whole = { λ s. lines_whole (lines_from largest_line 0 (V.list s.values.now)) };
 
+    #[tactic(auto, using(crate::proofs::LineFacts::line_parts_count))]
     fn len(&self) -> usize {
         self.values.len()
     }
 
+    #[tactic(auto, using(crate::proofs::LineFacts::line_parts_count))]
     fn append(
         &self,
         index: usize,

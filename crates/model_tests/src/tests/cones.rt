@@ -6,7 +6,7 @@ ghost use Rattle.precedence.specs.Zones.{HasZones};
 use pit_model::plan::Plan;
 use pit_model::read_plan;
 use plan_parts::block::Block;
-use precedence::{FoundPreds, Numbering, PredLists, Preds, number_blocks, preds};
+use precedence::{LazyPreds, Numbering, PredLists, Preds, number_blocks, preds};
 use std::alloc::Global;
 use std::test::Fail;
 
@@ -119,23 +119,18 @@ const TWO_ROWS: &[Place] = &[
     [9, 0, 1],
 ];
 
-fn found_in(alloc: Global, plan: &[u8], places: &[Place]) -> Result<FoundPreds, Fail> {
+fn found_in(alloc: Global, plan: &[u8], places: &[Place]) -> Result<LazyPreds, Fail> {
     let plan = read_plan(alloc, plan)?;
     let blocks = blocks_at(alloc, places)?;
     let numbering = numbered(alloc, blocks.as_slice())?;
     if !has_zones(&numbering, &plan) {
         return Err("zones")?;
     }
-    Ok(FoundPreds::new(alloc, &numbering, &plan)?)
+    Ok(LazyPreds::new(alloc, &numbering, &plan)?)
 }
 
 // Whether a block retains these of its list.
-fn retains(
-    alloc: Global,
-    lists: &mut FoundPreds,
-    block: u32,
-    wanted: &[u32],
-) -> Result<bool, Fail> {
+fn retains(alloc: Global, lists: &mut LazyPreds, block: u32, wanted: &[u32]) -> Result<bool, Fail> {
     let mut ids = Vec::new(alloc);
     if (block as usize) < lists.count() {
         lists.add_retained(&mut ids, block)?;

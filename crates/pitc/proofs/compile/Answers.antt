@@ -1,4 +1,4 @@
-use Rattle.std.proofs.Common.{inl, string_bytes, subst}
+use Rattle.std.proofs.Common.{inl, subst}
 use Rattle.std.proofs.lemmas.Result.{err_from_is_err_and}
 use Rattle.command_io.specs.PlanFile.{IsNoPlanAt, IsPlanAt}
 use Rattle.pitc.proofs.compile.Goals as goal

@@ -17,7 +17,7 @@ returns-clause-ends g c =
       done = λ zero. rw (all, first) at (ends.done zero);
       quiet = ends.quiet;
       kept = ends.kept;
-      refused = λ bad. let told = ends.refused bad in (told.0, rw (all, first) at told.1, told.2);
+      refused = λ bad. let reported = ends.refused bad in (reported.0, rw (all, first) at reported.1, reported.2);
     })
 
 pub returns-clause-made : goal.returns-clause-made

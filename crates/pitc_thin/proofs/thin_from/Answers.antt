@@ -17,11 +17,11 @@ returns-clause-ends g c =
     rw (← c.world.view_is) (
       c.in_ok-run.ensures.made,
       record {
-        done = λ zero. record { plan = _; between = _; read = read; told = rw c.as_slice.ensures.value at (ends.done zero) };
+        done = λ zero. record { plan = _; between = _; read = read; reported = rw c.as_slice.ensures.value at (ends.done zero) };
         quiet = ends.quiet;
         kept = ends.kept;
         refused = λ bad.
-            let told = ends.refused bad in
-            (told.0, record { plan = _; between = _; read = read; why = rw c.as_slice.ensures.value at told.1 }, told.2);
+            let reported = ends.refused bad in
+            (reported.0, record { plan = _; between = _; read = read; why = rw c.as_slice.ensures.value at reported.1 }, reported.2);
       },
     )

@@ -10,7 +10,7 @@ use Rattle.precedence.specs.declared.cones.cone_table.ConeTable.{ConeTable}
 use Rattle.precedence.specs.declared.lanes.strip.Strip.{Strip}
 use Rattle.precedence.specs.declared.lanes.strips.Cover.{Cover}
 use Rattle.precedence.specs.declared.lanes.strips.Strips.{Strips}
-use Rattle.precedence.proofs.runs.RowOfCode.{in_this_row}
+use Rattle.precedence.proofs.ranges.RowOfCode.{in_this_row}
 
 -- a lane meets the rows of one of the first n tables
 abbrev pub MeetsTables : List ConeTable → List Strips → (distance n i : ℕ) → Type 0

@@ -3,12 +3,12 @@ use Rattle.std.proofs.Common.{◌≡◌, ℕ, ◌+◌, ◌-◌, ◌<◌, ◌≤�
 use Rattle.std.specs.List.Sorted.{IsStrictlyIncreasing}
 use Rattle.std.proofs.lemmas.Bool.{and_parts, cases_eq, cases_lt, false≢true, le-leb, leb-true, lt-ltb, ltb-true}
 use Rattle.std.proofs.lemmas.Nat.Bits.{bit_at-zero}
-use Rattle.precedence.specs.inner.Alike.{AreAlikeFrom, Follows}
+use Rattle.precedence.specs.inner.SameCone.{HaveSameConeFrom, Follows}
 use Rattle.std.proofs.lemmas.List.Elements.{All-from_get_or, All-get_or}
 use Rattle.std.proofs.lemmas.List.{ext_get_or, get_or-map, get_or-set_other, get_or-set_same, get_or_append_left, get_or_push, get_or_read, length-map, length-set, map-append}
 use Rattle.precedence.specs.inner.lanes.Bits.{has_bit}
 use Rattle.precedence.specs.inner.lanes.Windows.{AreStrips, HasDistance, IsBlockAt, IsStrip, Sees, any_block, of_table, scene, table_of}
-use Rattle.precedence.specs.inner.lanes.Looking.{EndBy, HasAdded, HasBlocks, HasNone, IsGrown, IsJoined, IsLike, IsNext, IsPart, IsPut, IsRowFrom, IsRun, TablesEndBy}
+use Rattle.precedence.specs.inner.lanes.Looking.{EndBy, HasAdded, HasBlocks, HasNone, IsGrown, IsJoined, IsLike, IsNext, IsPart, IsPut, IsRowFrom, IsRange, TablesEndBy}
 use Rattle.precedence.specs.inner.lanes.Strips.{AreApart}
 use Rattle.precedence.specs.inner.Rows.{is_in_rows, pasts, start_of, LieApart}
 use Rattle.precedence.specs.inner.Between.{codes_in}
@@ -16,9 +16,9 @@ use Rattle.precedence.specs.declared.cones.block_cones.BlockCones.{BlockCones}
 use Rattle.precedence.specs.declared.cones.cone_rows.Row.{Row}
 use Rattle.precedence.specs.declared.lanes.strip.Strip.{Strip}
 use Rattle.precedence.specs.declared.lanes.strips.Sight.{Sight}
-use Rattle.precedence.proofs.runs.RowOfCode.{in_this_row, none_above, not_past, row_is, some_codes}
-use Rattle.precedence.proofs.runs.Starts.{no_less, start_before}
-use Rattle.precedence.proofs.runs.Alike.{first_follows}
+use Rattle.precedence.proofs.ranges.RowOfCode.{in_this_row, none_above, not_past, row_is, some_codes}
+use Rattle.precedence.proofs.ranges.Starts.{no_less, start_before}
+use Rattle.precedence.proofs.ranges.SameCone.{first_follows}
 
 pub no_bits : (p : ℕ) → has_bit 0 p ≡ false
 no_bits p = ap (λ n. n == 1) (bit_at-zero p)
@@ -32,25 +32,25 @@ table_read b id number lt is =
 
 -- ---- stretches
 
-abbrev pub AreAlikeIn : BlockCones → (id count : ℕ) → Type 0
-AreAlikeIn b id count = AreAlikeFrom (codes_in b) b.tables.now.of_zone.items b.zones.now id count
+abbrev pub HaveSameConeIn : BlockCones → (id count : ℕ) → Type 0
+HaveSameConeIn b id count = HaveSameConeFrom (codes_in b) b.tables.now.of_zone.items b.zones.now id count
 
-pub alike_in : (b : BlockCones) (id count : ℕ) → id < length (codes_in b) → count ≡ max (get_or b.alike.now id 0) 1 → AreAlikeIn b id count
-alike_in b id count lt is j less = ⊎_elim
-    (λ some. b.are_alike.follow id lt j some)
+pub same_cone_in : (b : BlockCones) (id count : ℕ) → id < length (codes_in b) → count ≡ max (get_or b.same_cone.now id 0) 1 → HaveSameConeIn b id count
+same_cone_in b id count lt is j less = ⊎_elim
+    (λ some. b.have_same_cone.follow id lt j some)
     (λ none.
     let first : 0 ≡ j = omega (arith, none, is, less) in
     subst (λ (n : ℕ). Follows (codes_in b) b.tables.now.of_zone.items b.zones.now id n) first (first_follows (codes_in b) b.tables.now.of_zone.items b.zones.now id lt))
-    (cases_lt j (get_or b.alike.now id 0))
+    (cases_lt j (get_or b.same_cone.now id 0))
 
-pub run_is : (b : BlockCones) (id past from most first count bits : ℕ) → id < length (codes_in b) → from + first ≡ get_or (codes_in b) id 0 → past ≡ id + count
-    → 0 < count → AreAlikeIn b id count → ((p : ℕ) → has_bit bits p ≡ (nat_le first p && nat_lt p (min (first + count) most)))
-    → IsRun (scene b) id past from most bits
-run_is b id past from most first count bits lt at is some alike told = record {
+pub range_is : (b : BlockCones) (id past from most first count bits : ℕ) → id < length (codes_in b) → from + first ≡ get_or (codes_in b) id 0 → past ≡ id + count
+    → 0 < count → HaveSameConeIn b id count → ((p : ℕ) → has_bit bits p ≡ (nat_le first p && nat_lt p (min (first + count) most)))
+    → IsRange (scene b) id past from most bits
+range_is b id past from most first count bits lt at is some same_cone exact = record {
   later = omega (arith, is, some);
-  within = let last = (alike (count - 1) (omega (arith, some))).within in omega (arith, is, some, last);
+  within = let last = (same_cone (count - 1) (omega (arith, some))).within in omega (arith, is, some, last);
   table = λ c le less.
-      let same = (alike (c - id) (omega (arith, is, le, less))).table in
+      let same = (same_cone (c - id) (omega (arith, is, le, less))).table in
       let there : id + (c - id) ≡ c = omega (arith, le) in
       subst (λ (n : ℕ). table_of (scene b) n ≡ table_of (scene b) id) there same;
   below = λ p bit. let in_it = inside p bit in omega (arith, in_it.1);
@@ -58,20 +58,20 @@ run_is b id past from most first count bits lt at is some alike told = record {
       let in_it = inside p bit in
       let k = p - first in
       let less : k < count = omega (arith, in_it.0, in_it.1) in
-      let h = alike k less in
+      let h = same_cone k less in
       (id + k, omega arith, omega (arith, is, less), let code = h.code in omega (arith, code, at, in_it.0));
   complete = λ p c less le before code.
-      let h = alike (c - id) (omega (arith, is, le, before)) in
+      let h = same_cone (c - id) (omega (arith, is, le, before)) in
       let there : id + (c - id) ≡ c = omega (arith, le) in
       let same : get_or (codes_in b) c 0 ≡ get_or (codes_in b) id 0 + (c - id) = ap (λ n. get_or (codes_in b) n 0) (sym there) ∙ h.code in
       let low : nat_le first p ≡ true = le-leb _ _ (omega (arith, same, code, at)) in
       let up : nat_lt p (min (first + count) most) ≡ true = lt-ltb _ _ (omega (arith, same, code, at, is, le, before, less)) in
-      told p ∙ (λ j. low j && up j);
+      exact p ∙ (λ j. low j && up j);
 }
   where
     inside : (p : ℕ) → has_bit bits p ≡ true → (first ≤ p) × (p < min (first + count) most)
     inside p bit =
-        let both = and_parts (nat_le first p) (nat_lt p (min (first + count) most)) (sym (told p) ∙ bit) in
+        let both = and_parts (nat_le first p) (nat_lt p (min (first + count) most)) (sym (exact p) ∙ bit) in
         (leb-true _ _ both.0, ltb-true _ _ both.1)
 
 -- ---- words
@@ -92,24 +92,24 @@ module _ (b : BlockCones) (Is : ℕ → Type 0) (from most : ℕ) where
     complete = λ p c lt less at. let code = at.code_is in absurd (omega (arith, before c less, code));
   }
 
-  module _ (id past top bits : ℕ) (run : IsRun (scene b) id past from top bits) where
+  module _ (id past top bits : ℕ) (range : IsRange (scene b) id past from top bits) where
     -- a stretch of blocks of this kind
-    pub has_run : (word all : ℕ) → most ≤ top → ((c : ℕ) → id ≤ c → c < past → Is c) → IsJoined word bits all
+    pub has_range : (word all : ℕ) → most ≤ top → ((c : ℕ) → id ≤ c → c < past → Is c) → IsJoined word bits all
         → HasBlocks (scene b) Is from most id word → HasBlocks (scene b) Is from most past all
-    has_run word all le kind joins had = record {
+    has_range word all le kind joins had = record {
       sound = λ p bit. old_or_new p bit (has_bit word p) refl;
       complete = λ p c lt less at. ⊎_elim
           (λ before. joins.left p (had.complete p c lt before at))
-          (λ later. joins.right p (run.complete p c (omega (arith, lt, le)) later less at.code_is))
+          (λ later. joins.right p (range.complete p c (omega (arith, lt, le)) later less at.code_is))
           (cases_lt c id);
     }
       where
         found : (p : ℕ) → has_bit bits p ≡ true → (c : ℕ) × IsBlockAt (scene b) Is (from + p) c
         found p bit =
-            let at = run.sound p bit in (
+            let at = range.sound p bit in (
               at.0,
               record {
-                within = let within = run.within in omega (arith, within, at.2);
+                within = let within = range.within in omega (arith, within, at.2);
                 code_is = at.3;
                 kind = kind at.0 at.1 at.2;
               },
@@ -157,7 +157,7 @@ module _ (b : BlockCones) (Is : ℕ → Type 0) (from : ℕ) (strip : Strip) (ba
   }
 
   -- bits put in for blocks of this kind
-  module _ (id past bits : ℕ) (old new : List Strip) (run : IsRun (scene b) id past from 128 bits) (kind : (c : ℕ) → id ≤ c → c < past → Is c)
+  module _ (id past bits : ℕ) (old new : List Strip) (range : IsRange (scene b) id past from 128 bits) (kind : (c : ℕ) → id ≤ c → c < past → Is c)
       (ends : EndBy strip.start base) (put : IsPut strip bits old new) (had : IsGrown (scene b) Is from id strip base old) where
     few_bits : strip.len + 63 ≤ 128
     few_bits = let few = strip.few in omega (arith, few)
@@ -201,7 +201,7 @@ module _ (b : BlockCones) (Is : ℕ → Type 0) (from : ℕ) (strip : Strip) (ba
           last = λ s lt. subst (λ (n : ℕ). IsPart (scene b) Is from past strip (get_or new n s)) same (record {
             like = let place : length new - 1 ≡ length old = omega (arith, few, new_one) in
                 subst (λ (n : ℕ). IsLike strip (get_or new n s)) place (put.like s);
-            blocks = rw (put.alone s new_one) (has_run b Is from (strip.len + 63) id past 128 bits run 0 bits few_bits kind nothing_before (had.none same));
+            blocks = rw (put.alone s new_one) (has_range b Is from (strip.len + 63) id past 128 bits range 0 bits few_bits kind nothing_before (had.none same));
           });
           none = λ equal. absurd (omega (arith, equal, new_one, same));
         }
@@ -227,7 +227,7 @@ module _ (b : BlockCones) (Is : ℕ → Type 0) (from : ℕ) (strip : Strip) (ba
               record {
                 like = let there : length new - 1 ≡ length base = omega (arith, equal, place) in
                     subst (λ (n : ℕ). IsLike strip (get_or new n s)) there (put.like s);
-                blocks = has_run b Is from (strip.len + 63) id past 128 bits run (get_or old (length base) s).word (get_or new (length base) s).word few_bits kind
+                blocks = has_range b Is from (strip.len + 63) id past 128 bits range (get_or old (length base) s).word (get_or new (length base) s).word few_bits kind
                     (subst (λ (n : ℕ). IsJoined (get_or old n s).word bits (get_or new n s).word) place (put.joined s equal)) part.blocks;
               };
           none = λ none. absurd (omega (arith, none, equal, lt));
@@ -236,17 +236,17 @@ module _ (b : BlockCones) (Is : ℕ → Type 0) (from : ℕ) (strip : Strip) (ba
     pub grown_more : IsGrown (scene b) Is from past strip base new
     grown_more = ⊎_elim joined_there (λ le. let more = had.more in appended (omega (arith, le, more))) (cases_lt (length base) (length old))
 
-  pub grown_others : (id past bits : ℕ) (new : List Strip) → IsRun (scene b) id past from 128 bits → ((c : ℕ) → id ≤ c → c < past → Is c → ⊥)
+  pub grown_others : (id past bits : ℕ) (new : List Strip) → IsRange (scene b) id past from 128 bits → ((c : ℕ) → id ≤ c → c < past → Is c → ⊥)
       → IsGrown (scene b) Is from id strip base new → IsGrown (scene b) Is from past strip base new
-  grown_others id past bits new run other had = record {
+  grown_others id past bits new range other had = record {
     more = had.more;
     few = had.few;
     kept = had.kept;
     last = λ s lt. let part = had.last s lt in record {
       like = part.like;
-      blocks = has_others b Is from (strip.len + 63) id past 128 bits run _ other part.blocks;
+      blocks = has_others b Is from (strip.len + 63) id past 128 bits range _ other part.blocks;
     };
-    none = λ same. has_others b Is from (strip.len + 63) id past 128 bits run 0 other (had.none same);
+    none = λ same. has_others b Is from (strip.len + 63) id past 128 bits range 0 other (had.none same);
   }
 
   pub grown_all : (id : ℕ) (new : List Strip) → (id < length (codes_in b) → from + (strip.len + 63) ≤ get_or (codes_in b) id 0)

@@ -5,19 +5,19 @@ use Rattle.std.proofs.lemmas.Bool.{cases_Bool}
 use Rattle.std.proofs.lemmas.List.{get_or_default}
 use Rattle.std.proofs.lemmas.List.Folds.{list_any_at}
 use Rattle.std.proofs.lemmas.List.Kept.{IsStrictlyIncreasing-filter}
-use Rattle.precedence.specs.Behind.{is_behind}
-use Rattle.precedence.specs.IdRuns.{is_in}
+use Rattle.precedence.specs.PredecessorOfAny.{is_predecessor_of_any}
+use Rattle.precedence.specs.IdRanges.{is_in}
 use Rattle.precedence.specs.inner.Between.{cone_of, is_in_cone, IsBetween}
-use Rattle.precedence.specs.inner.FoundFields.{found_in, scene_in, KeepsFound}
+use Rattle.precedence.specs.inner.LazyPredsFields.{lazy_lists_of, scene_in, IsLazyPreds}
 use Rattle.precedence.specs.inner.lanes.Windows.{AreRetained}
-use Rattle.precedence.specs.inner.Lists.{lying}
+use Rattle.precedence.specs.inner.Lists.{ids_in_rows}
 use Rattle.precedence.specs.inner.Rows.{is_in_rows}
 use Rattle.precedence.specs.declared.cones.cone_rows.Row.{Row}
-use Rattle.precedence.specs.declared.lists.found_preds.FoundPreds.TheInside.{Inside}
-use Rattle.precedence.proofs.AllLists.{few_found, found_at, found_length}
-use Rattle.precedence.proofs.Listed.{first_in, in_right, lying_rises, lying_within}
+use Rattle.precedence.specs.declared.lists.lazy_preds.LazyPreds.TheInside.{Inside}
+use Rattle.precedence.proofs.AllLists.{few_found, found_at, lazy_length}
+use Rattle.precedence.proofs.Listed.{first_in, in_right, ids_in_rows_rise, ids_in_rows_within}
 use Rattle.precedence.proofs.Members.{contains_true, kept_from, kept_in, one_list, true_contains}
-use Rattle.precedence.proofs.PlacesWhere.{told_where}
+use Rattle.precedence.proofs.PositionsWhere.{exact_where}
 
 -- if some number of a list passes a test, a member does
 any_some : (test : ℕ → Bool) (xs : List ℕ) → list_any test xs ≡ true → (d : ℕ) × (is_in xs d ≡ true) × (test d ≡ true)
@@ -29,7 +29,7 @@ any_some test (x ∷ xs) h = ⊎_elim
     (w.0, in_right (x ∷ []) xs w.0 w.1, w.2))
     (cases_Bool (test x))
 
-module _ (f : Inside) (keeps : KeepsFound f) (lists : List (List ℕ)) (is : found_in f ≡ lists) (block : ℕ) (within : block < length lists) where
+module _ (f : Inside) (keeps : IsLazyPreds f) (lists : List (List ℕ)) (is : lazy_lists_of f ≡ lists) (block : ℕ) (within : block < length lists) where
   abbrev codes : List ℕ
   codes = f.places.codes.items
 
@@ -37,17 +37,17 @@ module _ (f : Inside) (keeps : KeepsFound f) (lists : List (List ℕ)) (is : fou
   cone = cone_of f.tables.tables.items f.tables.of_zone.items f.zones.items
 
   few : length lists ≡ length codes
-  few = sym (ap length is) ∙ found_length f keeps ∙ keeps.each
+  few = sym (ap length is) ∙ lazy_length f keeps ∙ keeps.each
 
   -- the list of any block
-  list_is : (d : ℕ) → d < length codes → get_or lists d [] ≡ lying (get_or codes d 0) (cone d) codes
+  list_is : (d : ℕ) → d < length codes → get_or lists d [] ≡ ids_in_rows (get_or codes d 0) (cone d) codes
   list_is d there =
       let in_zones : d < length f.zones.items = omega (arith, there, keeps.each) in
       found_at f keeps lists d (get_or f.zones.items d 0) (get_or codes d 0) is (omega (arith, there, few))
       (get_or_default f.zones.items d 0 (get_or f.zones.items d 0) in_zones) (get_or_default codes d 0 (get_or codes d 0) there)
 
   list_of : (d c : ℕ) → d < length codes → c < length codes → is_in (get_or lists d []) c ≡ is_in_cone codes cone d c
-  list_of d c there lt = ap (λ list. is_in list c) (list_is d there) ∙ told_where (is_in_rows (get_or codes d 0) (cone d)) c codes 0 lt
+  list_of d c there lt = ap (λ list. is_in list c) (list_is d there) ∙ exact_where (is_in_rows (get_or codes d 0) (cone d)) c codes 0 lt
 
   abbrev list : List ℕ
   list = get_or lists block []
@@ -64,16 +64,16 @@ module _ (f : Inside) (keeps : KeepsFound f) (lists : List (List ℕ)) (is : fou
       few_found f keeps lists block zone from is within (get_or_default f.zones.items block 0 zone in_zones) (get_or_default codes block 0 from here)
 
   in_codes : (d : ℕ) → is_in list d ≡ true → d < length codes
-  in_codes d has = lying_within (get_or codes block 0) (cone block) codes d (sym (ap (λ list. is_in list d) (list_is block here)) ∙ has)
+  in_codes d has = ids_in_rows_within (get_or codes block 0) (cone block) codes d (sym (ap (λ list. is_in list d) (list_is block here)) ∙ has)
 
   -- a block between is a predecessor of a block of the list
-  any_is : (c d : ℕ) → c < length codes → IsBetween codes cone block c d → is_behind lists list c ≡ true
+  any_is : (c d : ℕ) → c < length codes → IsBetween codes cone block c d → is_predecessor_of_any lists list c ≡ true
   any_is c d there mid =
       let at = true_contains list d (list_of block d here mid.within ∙ mid.above) in
       list_any_at (λ d. is_in (get_or lists d []) c) list at.0 d at.1
       (ap (λ d. is_in (get_or lists d []) c) at.2 ∙ list_of d c mid.within there ∙ mid.below)
 
-  mid_is : (c : ℕ) → c < length codes → is_behind lists list c ≡ true → (d : ℕ) × IsBetween codes cone block c d
+  mid_is : (c : ℕ) → c < length codes → is_predecessor_of_any lists list c ≡ true → (d : ℕ) × IsBetween codes cone block c d
   mid_is c there some =
       let w = any_some (λ d. is_in (get_or lists d []) c) list some in
       let lt = in_codes w.0 w.1 in (
@@ -86,15 +86,15 @@ module _ (f : Inside) (keeps : KeepsFound f) (lists : List (List ℕ)) (is : fou
       )
 
   abbrev free : ℕ → Bool
-  free c = not (is_behind lists list c)
+  free c = not (is_predecessor_of_any lists list c)
 
   pub retained_is : (ids : List ℕ) → AreRetained (scene_in f) block ids → ids ≡ filter free list
   retained_is ids r = one_list ids (filter free list) r.rising
-      (IsStrictlyIncreasing-filter free list (rw (list_is block here) (lying_rises (get_or codes block 0) (cone block) codes)))
+      (IsStrictlyIncreasing-filter free list (rw (list_is block here) (ids_in_rows_rise (get_or codes block 0) (cone block) codes)))
       (λ c has.
       let s = r.sound c (contains_true ids c has) in
       kept_in free list c (true_contains list c (list_of block c here s.0 ∙ s.1))
-      (⊎_elim (λ yes. absurd (let mid = mid_is c s.0 yes in s.2 mid.0 mid.1)) (λ no. ap not no) (cases_Bool (is_behind lists list c))))
+      (⊎_elim (λ yes. absurd (let mid = mid_is c s.0 yes in s.2 mid.0 mid.1)) (λ no. ap not no) (cases_Bool (is_predecessor_of_any lists list c))))
       (λ c has.
       let w = kept_from free list c has in
       let own = contains_true list c w.0 in

@@ -10,9 +10,9 @@ use Rattle.precedence.specs.declared.cones.cone_rows.Row.{Row}
 use Rattle.precedence.specs.declared.cones.cone_table.ConeTable.{ConeTable}
 use Rattle.precedence.specs.declared.lanes.strip.Strip.{Strip}
 use Rattle.precedence.proofs.bits.Gathered.{HasSome}
-use Rattle.precedence.proofs.runs.RowOfCode.{in_this_row, past_is, past_some, row_is}
-use Rattle.precedence.proofs.runs.RunsOfRows.{apart_at, pasts_rise}
-use Rattle.precedence.proofs.runs.Starts.{start_before_in}
+use Rattle.precedence.proofs.ranges.RowOfCode.{in_this_row, past_is, past_some, row_is}
+use Rattle.precedence.proofs.ranges.RangesOfRows.{apart_at, pasts_rise}
+use Rattle.precedence.proofs.ranges.Starts.{start_before_in}
 
 -- a code in the rows is in one of them
 abbrev pub SomeRow : List Row → ℕ → Type 0

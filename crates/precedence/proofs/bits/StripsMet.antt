@@ -7,9 +7,9 @@ use Rattle.precedence.specs.inner.Rows.{pasts, start_of, LieApart}
 use Rattle.precedence.specs.declared.cones.cone_rows.Row.{Row}
 use Rattle.precedence.specs.declared.lanes.strip.Strip.{Strip}
 use Rattle.precedence.specs.declared.lanes.strips.Strips.{Strips}
-use Rattle.precedence.proofs.runs.RowOfCode.{in_none, long, past_some}
-use Rattle.precedence.proofs.runs.RunsOfRows.{pasts_rise}
-use Rattle.precedence.proofs.runs.Starts.{no_less, start_before_in, start_within}
+use Rattle.precedence.proofs.ranges.RowOfCode.{in_none, long, past_some}
+use Rattle.precedence.proofs.ranges.RangesOfRows.{pasts_rise}
+use Rattle.precedence.proofs.ranges.Starts.{no_less, start_before_in, start_within}
 
 -- the start of a strip, and the number of strips
 pub start_at : (strips : Strips) (starts : List ℕ) → starts ≡ strips.starts.items → (k : ℕ) (s : Strip) → k < length strips.strips.items

@@ -7,7 +7,7 @@ use Rattle.std.proofs.lemmas.List.{get_or_default, get_or-map, get_or-set_other,
 use Rattle.std.proofs.Math.ListN.{length-set}
 use Rattle.std.proofs.lemmas.List.Kept.{AllPairs-from_increasing}
 use Rattle.std.proofs.lemmas.Option.{slice_get-get_or}
-use Rattle.precedence.specs.IdRuns.{is_in}
+use Rattle.precedence.specs.IdRanges.{is_in}
 use Rattle.precedence.specs.inner.lanes.Bits.{has_bit}
 use Rattle.precedence.specs.inner.lanes.Windows.{any_block, cones_of, of_table, rows_of, scene, table_of, AreFound, AreRetained, AreStrips, AreWindows, HasBetween, HasLane, IsBlockAt, IsLane, IsRetained, IsWindow, MeetsAny, Scene, Sees, SeesAt}
 use Rattle.precedence.specs.inner.Rows.{is_in_row, is_in_rows, start_of}
@@ -23,7 +23,7 @@ use Rattle.precedence.specs.declared.lanes.strips.Window.{Window}
 use Rattle.precedence.specs.declared.lanes.strips.Windows.{Windows}
 use Rattle.precedence.proofs.bits.Serving.{no_bit}
 use Rattle.precedence.proofs.Listed.{first_in, in_left, in_right, push_cases, rising_push}
-use Rattle.precedence.proofs.runs.Starts.{from_start, no_less, start_before}
+use Rattle.precedence.proofs.ranges.Starts.{from_start, no_less, start_before}
 
 -- ---- rows by their distances
 
@@ -304,8 +304,8 @@ module _ (b : Scene) (rises : IsStrictlyIncreasing b.codes) (id : ℕ) where
   abbrev own : List Row
   own = rows_of b (table_of b id)
 
-  lies_has : (c d e : ℕ) → get_or b.codes c 0 ≡ from + e → IsBetween b.codes (cones_of b) id c d → HasBetween b own from e
-  lies_has c d e at lies =
+  has_between_if_between : (c d e : ℕ) → get_or b.codes c 0 ≡ from + e → IsBetween b.codes (cones_of b) id c d → HasBetween b own from e
+  has_between_if_between c d e at lies =
       let low = above_from from (get_or b.codes d 0) own lies.above in
       let up = above_from (get_or b.codes d 0) (get_or b.codes c 0) (cones_of b d) lies.below in
       let f = get_or b.codes d 0 - from in (
@@ -320,8 +320,8 @@ module _ (b : Scene) (rises : IsStrictlyIncreasing b.codes) (id : ℕ) where
         },
       )
 
-  has_lies : (c e : ℕ) → get_or b.codes c 0 ≡ from + e → HasBetween b own from e → (d : ℕ) × IsBetween b.codes (cones_of b) id c d
-  has_lies c e at w =
+  between_if_has_between : (c e : ℕ) → get_or b.codes c 0 ≡ from + e → HasBetween b own from e → (d : ℕ) × IsBetween b.codes (cones_of b) id c d
+  between_if_has_between c e at w =
       let f = w.0 in
       let d = w.2 in
       let h = w.3 in
@@ -346,7 +346,7 @@ module _ (b : Scene) (rises : IsStrictlyIncreasing b.codes) (id : ℕ) where
         let e = (get_or found w.0 f).distance in
         let at = w.2.code f in
         let there = is.sound e (w.0, w.1, λ g. (ap (λ (x : Found). x.distance) (get_or_default found w.0 g f w.1), w.2.bit g)) in
-        (w.2.within, at_distance from (get_or b.codes c 0) e own at there.0, λ d lies. there.2 (lies_has c d e at lies));
+        (w.2.within, at_distance from (get_or b.codes c 0) e own at there.0, λ d lies. there.2 (has_between_if_between c d e at lies));
     complete = λ c lt above.
         let low = above_from from (get_or b.codes c 0) own above in
         let e = get_or b.codes c 0 - from in
@@ -359,7 +359,7 @@ module _ (b : Scene) (rises : IsStrictlyIncreasing b.codes) (id : ℕ) where
         let two = (there.2 f).0 in
         let same = same_id b.codes w.0 c rises w.2.within lt (omega (arith, one, two, at)) in
         inl (subst (λ n. is_in ids n ≡ true) same w.1))
-        (λ between. inr (has_lies c e at between))
+        (λ between. inr (between_if_has_between c e at between))
         (is.complete e c (distance_of from (get_or b.codes c 0) e own at above) (record { within = lt; code_is = at; kind = refl }));
   }
 

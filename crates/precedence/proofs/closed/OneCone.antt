@@ -7,11 +7,11 @@ use Rattle.plan_parts.specs.Plan.{PlanParts}
 use Rattle.plan_parts.specs.PlanInvariant.{IsCone}
 use Rattle.plan_parts.specs.declared.block.Block.{Block}
 use Rattle.plan_parts.specs.declared.cone.Cone.{Cone}
-use Rattle.precedence.specs.Cone.{above, is_above, places_where, preds}
+use Rattle.precedence.specs.Cone.{above, is_above, positions_where, preds}
 use Rattle.precedence.specs.Zones.{HasZones}
-use Rattle.precedence.specs.IdRuns.{is_in}
-use Rattle.precedence.proofs.PlacesWhere.{told_nowhere, told_where}
-use Rattle.precedence.specs.Closed.{AreClosed, HasArc, Way}
+use Rattle.precedence.specs.IdRanges.{is_in}
+use Rattle.precedence.proofs.PositionsWhere.{exact_nowhere, exact_where}
+use Rattle.precedence.specs.Closed.{AreClosed, HasArc, HasPath}
 use Rattle.precedence.proofs.Members.{contains_true, in_list, true_contains}
 use Rattle.precedence.proofs.closed.Slopes.{inside_through, is_inside}
 
@@ -29,7 +29,7 @@ module _ (plan : PlanParts) (blocks : List Block) (cone : Cone) (is : IsCone con
   long : length lists ≡ length blocks
   long = length-map blocks (λ (low : Block). above plan.grid (slice_get plan.cones low.zone) blocks low)
 
-  list_is : (b : ℕ) → b < length blocks → get_or lists b [] ≡ places_where (above_in (at b)) 0 blocks
+  list_is : (b : ℕ) → b < length blocks → get_or lists b [] ≡ positions_where (above_in (at b)) 0 blocks
   list_is b lt =
       let zone = (at b).zone in
       let there : zone < length plan.cones = zones b any lt in
@@ -44,18 +44,18 @@ module _ (plan : PlanParts) (blocks : List Block) (cone : Cone) (is : IsCone con
     near : (at c).z - (at b).z ≤ cone.k
     inside : is_inside plan.grid cone is (at b) (at c) ≡ true
 
-  told : (b c : ℕ) → HasArc lists b c → IsAbove b c
-  told b c has =
+  exact : (b c : ℕ) → HasArc lists b c → IsAbove b c
+  exact b c has =
       let lt : b < length blocks = omega (arith, in_list lists b c has, long) in
-      let in' : is_in (places_where (above_in (at b)) 0 blocks) c ≡ true = ap (λ list. is_in list c) (sym (list_is b lt)) ∙ contains_true (get_or lists b []) c has in
+      let in' : is_in (positions_where (above_in (at b)) 0 blocks) c ≡ true = ap (λ list. is_in list c) (sym (list_is b lt)) ∙ contains_true (get_or lists b []) c has in
       ⊎_elim
       (λ within.
-      let yes : above_in (at b) (at c) ≡ true = sym (told_where (above_in (at b)) c blocks any within) ∙ in' in
+      let yes : above_in (at b) (at c) ≡ true = sym (exact_where (above_in (at b)) c blocks any within) ∙ in' in
       let first = and_parts (nat_lt (at b).z (at c).z) _ yes in
       let second = and_parts (nat_le ((at c).z - (at b).z) cone.k) _ first.1 in
       record { low = lt; high = within; higher = ltb-true _ _ first.0; near = leb-true _ _ second.0; inside = second.1 })
       (λ past. absurd (
-      let none = told_nowhere (above_in (at b)) c blocks past in
+      let none = exact_nowhere (above_in (at b)) c blocks past in
       let bad : ⊥ = cc in bad))
       (cases_lt c (length blocks))
 
@@ -65,7 +65,7 @@ module _ (plan : PlanParts) (blocks : List Block) (cone : Cone) (is : IsCone con
       let near : nat_le ((at c).z - (at b).z) cone.k ≡ true = le-leb _ _ is_above_it.near in
       let yes : above_in (at b) (at c) ≡ true = λ j. up j && (near j && is_above_it.inside j) in
       true_contains (get_or lists b []) c
-      (ap (λ list. is_in list c) (list_is b is_above_it.low) ∙ told_where (above_in (at b)) c blocks any is_above_it.high ∙ yes)
+      (ap (λ list. is_in list c) (list_is b is_above_it.low) ∙ exact_where (above_in (at b)) c blocks any is_above_it.high ∙ yes)
 
   -- along a path, the last block is inside the slopes above the first
   record IsFarAbove (b c : ℕ) : Type 0 where
@@ -74,30 +74,30 @@ module _ (plan : PlanParts) (blocks : List Block) (cone : Cone) (is : IsCone con
     higher : (at b).z < (at c).z
     inside : is_inside plan.grid cone is (at b) (at c) ≡ true
 
-  along_way : (n b c : ℕ) → Way lists n b c → IsFarAbove b c
-  along_way zero b c arc = let a = told b c arc in record { low = a.low; high = a.high; higher = a.higher; inside = a.inside }
-  along_way (suc n) b c way =
-      let first = told b way.0 way.1 in
-      let rest = along_way n way.0 c way.2 in
+  along_path : (n b c : ℕ) → HasPath lists n b c → IsFarAbove b c
+  along_path zero b c arc = let a = exact b c arc in record { low = a.low; high = a.high; higher = a.higher; inside = a.inside }
+  along_path (suc n) b c path =
+      let first = exact b path.0 path.1 in
+      let rest = along_path n path.0 c path.2 in
       let up = first.higher in
       let more = rest.higher in
       record {
         low = first.low;
         high = rest.high;
         higher = omega arith;
-        inside = inside_through plan.grid cone is (at b) (at way.0) (at c) (omega arith) (omega arith) first.inside rest.inside;
+        inside = inside_through plan.grid cone is (at b) (at path.0) (at c) (omega arith) (omega arith) first.inside rest.inside;
       }
 
   pub closed_at : AreClosed lists
-  closed_at b c d n all own way =
-      let whole = told b c all in
-      let first = told b d own in
-      let rest = along_way n d c way in
+  closed_at b c d n all own path =
+      let whole = exact b c all in
+      let first = exact b d own in
+      let rest = along_path n d c path in
       let up = first.higher in
       let reach = whole.near in
       made d c (record { low = rest.low; high = rest.high; higher = rest.higher; near = omega arith; inside = rest.inside })
 
 pub closed : (plan : PlanParts) (blocks : List Block) (cone : Cone) → IsCone cone → All (λ (own : Cone). own ≡ cone) plan.cones
     → HasZones plan blocks → AreClosed (preds plan blocks)
-closed plan [] cone is one zones b c d n all own way = absurd (let lt = in_list (preds plan []) b c all in omega arith)
-closed plan (x ∷ xs) cone is one zones b c d n all own way = closed_at plan (x ∷ xs) cone is one zones x b c d n all own way
+closed plan [] cone is one zones b c d n all own path = absurd (let lt = in_list (preds plan []) b c all in omega arith)
+closed plan (x ∷ xs) cone is one zones b c d n all own path = closed_at plan (x ∷ xs) cone is one zones x b c d n all own path

@@ -2,22 +2,22 @@
 use Rattle.std.specs.Prelude.{◌≡◌, ℕ, ◌+◌, ◌-◌, ◌==◌, ◌≤◌, Bool, List, [], ◌∷◌, length, nat_lt, slice_index, if◌then◌else◌}
 use Rattle.precedence.specs.inner.Rows.{start_of}
 use Rattle.precedence.specs.declared.cones.cone_rows.Row.{Row}
-use Rattle.precedence.specs.declared.lists.row_runs.Hint.{Hint}
+use Rattle.precedence.specs.declared.lists.row_ranges.Hint.{Hint}
 
 -- the number of codes in a row, as seen from a code
 abbrev pub count_in : List ℕ → Row → ℕ → ℕ
 count_in codes row from = start_of (from + row.past) codes - start_of (from + row.first) codes
 
 -- `found` has the identifier of the first of these codes, and the end (exclusive)
-pub record IsRunOf (codes : List ℕ) (from : ℕ) (row : Row) (found : Hint) : Type 0 where
+pub record IsRangeOf (codes : List ℕ) (from : ℕ) (row : Row) (found : Hint) : Type 0 where
   pub first : found.first ≡ start_of (from + row.first) codes
   pub past : found.past ≡ start_of (from + row.past) codes
   pub in_order : found.first ≤ found.past
   pub in_codes : found.past ≤ length codes
 
 -- the start of the codes from a target on moves by 1 for each of `steps` steps of the target, or stays
-abbrev pub GoesOn : List ℕ → (target start steps : ℕ) (moves : Bool) → Type 0
-GoesOn codes target start steps moves = (t : ℕ) → t ≤ steps → start_of (target + t) codes ≡ start + (if moves then t else 0)
+abbrev pub Continues : List ℕ → (target start steps : ℕ) (moves : Bool) → Type 0
+Continues codes target start steps moves = (t : ℕ) → t ≤ steps → start_of (target + t) codes ≡ start + (if moves then t else 0)
 
 -- the codes of the blocks whose cone has the table, by the zones and codes of all blocks
 abbrev pub codes_with : List ℕ → ℕ → List ℕ → List ℕ → List ℕ

@@ -1,9 +1,6 @@
--- The lists of predecessors that fields represent: one list with ends, or counts.
-use Rattle.std.specs.Prelude.{◌≡◌, ℕ, zero, suc, ◌-◌, ◌*◌, ◌≤◌, List, [], ◌∷◌, length, map, sum_by, take, drop}
-use Rattle.std.specs.Global.{Vec}
-use Rattle.precedence.specs.declared.lists.counted_preds.CountedPreds.TheInside.{Inside as Counted}
+-- The lists of predecessors that one list with ends represents.
+use Rattle.std.specs.Prelude.{◌≡◌, ℕ, zero, suc, ◌-◌, ◌≤◌, List, [], ◌∷◌, length, take, drop}
 use Rattle.precedence.specs.declared.lists.predecessors.Preds.TheInside.{Inside}
-use Rattle.plan_parts.specs.declared.ranges.TheConstants.{MAX_BLOCKS}
 
 -- the parts of a list from the index `from` on, up to each of the ends
 abbrev pub pieces : List ℕ → ℕ → List ℕ → List (List ℕ)
@@ -26,19 +23,3 @@ lists_of p = pieces p.flat.items 0 p.ends.items
 
 abbrev pub KeepsPreds : Inside → Type 0
 KeepsPreds p = AreEnds 0 p.ends.items (length p.flat.items)
-
--- ---- counted lists
-
--- the lists in the order of arrival
-abbrev pub lists_in : List (Vec ℕ) → List (List ℕ)
-lists_in lists = map (λ list. list.items) lists
-
-abbrev pub counted_of : Counted → List (List ℕ)
-counted_of c = lists_in c.lists
-
--- the counts are correct and in range
-pub record KeepsCounted (c : Counted) : Type 0 where
-  pub blocks : c.blocks ≡ length (lists_in c.lists)
-  pub arcs : c.arcs ≡ sum_by length (lists_in c.lists)
-  pub few : c.blocks ≤ MAX_BLOCKS
-  pub low : c.arcs ≤ c.blocks * MAX_BLOCKS

@@ -10,12 +10,12 @@ use Rattle.precedence.specs.declared.cones.cone_rows.Reach.{Reach}
 use Rattle.plan_parts.specs.declared.ranges.TheConstants.{GRID_CELLS}
 
 -- the remaining reach covers the distance d
-abbrev pub takes_in : ℕ → Reach → Bool
-takes_in d r = nat_le (square (d * r.weight) + r.used) r.reach
+abbrev pub is_in_reach : ℕ → Reach → Bool
+is_in_reach d r = nat_le (square (d * r.weight) + r.used) r.reach
 
 -- of the distances 0, 1, .. below 10,000, exactly the first `count` are inside
 abbrev pub CountsAll : Reach → ℕ → Type 0
-CountsAll r count = (d : ℕ) → d < GRID_CELLS → takes_in d r ≡ nat_lt d count
+CountsAll r count = (d : ℕ) → d < GRID_CELLS → is_in_reach d r ≡ nat_lt d count
 
 -- the slope along y of the row i, if the block's own row is `rows`
 abbrev pub slope_across : Cone → ℕ → ℕ → Slope

@@ -31,15 +31,15 @@ pub record IsWithin (extent : Extent) (low high : Block) : Type 0 where
   pub benches : high.z - low.z ≤ extent.benches
 
 -- the rows contain exactly the codes of the blocks above, up to the distance `up`
-pub record Tells (grid : Grid) (cone : Cone) (extent : Extent) (up : ℕ) (rows : List Row) : Type 0 where
+pub record AreExactUpTo (grid : Grid) (cone : Cone) (extent : Extent) (up : ℕ) (rows : List Row) : Type 0 where
   pub apart : LieApart 0 rows up
-  pub told : (low high : Block) → IsWithin extent low high → is_in_rows (place_code low) rows (place_code high) ≡ (nat_lt (place_code high) (place_code low + up) && is_above grid cone low high)
+  pub exact : (low high : Block) → IsWithin extent low high → is_in_rows (place_code low) rows (place_code high) ≡ (nat_lt (place_code high) (place_code low + up) && is_above grid cone low high)
 
 -- the rows contain exactly the codes of the blocks above
 pub record IsTable (grid : Grid) (cone : Cone) (extent : Extent) (rows : List Row) : Type 0 where
   pub high : ℕ
   pub apart : LieApart 0 rows high
-  pub told : (low high : Block) → IsWithin extent low high → is_in_rows (place_code low) rows (place_code high) ≡ is_above grid cone low high
+  pub exact : (low high : Block) → IsWithin extent low high → is_in_rows (place_code low) rows (place_code high) ≡ is_above grid cone low high
 
 -- the distance from a block to the codes of the row i of the bench dz above, where row 0 is `rows` rows south of the block
 abbrev pub center : ℕ → ℕ → ℕ → ℕ

@@ -20,5 +20,5 @@ IsPlaced listed e = (e.1 < length listed) × ((d : Block) → place_code (slice_
 
 -- the codes of blocks, in ascending order
 pub record IsSortedTable (listed : List Block) (entries : List (ℕ × ℕ)) : Type 0 where
-  pub moved : IsPermutation (placed 0 listed) entries
+  pub permuted : IsPermutation (placed 0 listed) entries
   pub rising : IsStrictlyIncreasing (keys_of entries)

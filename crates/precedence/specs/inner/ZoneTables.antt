@@ -21,7 +21,7 @@ pub record IsWider (extent other : Extent) : Type 0 where
   pub benches : other.benches ≤ extent.benches
 
 -- the table is correct for each zone with its cone, as far as the zone's extent
-pub record IsTold (grid : Grid) (cones : List Cone) (extents : List Extent) (table : ConeTable) : Type 0 where
+pub record IsExact (grid : Grid) (cones : List Cone) (extents : List Extent) (table : ConeTable) : Type 0 where
   pub each : (z : ℕ) (cone : Cone) (e : Extent) → z < length cones → slice_index_or cones z cone ≡ table.cone
       → IsTable grid table.cone (slice_index_or extents z e) table.rows.items
 
@@ -37,7 +37,7 @@ pub record HasTables (grid : Grid) (cones : List Cone) (extents : List Extent) (
   pub zones : length of_zone ≡ length cones
   pub below : All (λ t. t < length tables) of_zone
   pub same : (z : ℕ) (cone : Cone) (table : ConeTable) → z < length cones → (slice_index_or tables (slice_index of_zone z) table).cone ≡ slice_index_or cones z cone
-  pub told : All (IsTold grid cones extents) tables
+  pub exact : All (IsExact grid cones extents) tables
 
 abbrev pub rows_of_table : Option ConeTable → List Row
 rows_of_table None = []

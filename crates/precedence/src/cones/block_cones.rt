@@ -1,7 +1,7 @@
 //! The cones of the blocks of a model.
 
 ghost use Rattle.std.specs.Prelude.{◌≡◌, ◌<◌, All, length};
-ghost use Rattle.precedence.specs.inner.Alike.{AreAlike};
+ghost use Rattle.precedence.specs.inner.SameCone.{HaveSameCone};
 
 use crate::cones::zone_tables::ZoneTables;
 use crate::places::Places;
@@ -12,10 +12,10 @@ use crate::places::Places;
 pub struct BlockCones<'a> {
     pub places: &'a Places,
     pub zones: &'a [u8],
-    pub alike: &'a [u16],
+    pub same_cone: &'a [u16],
     pub tables: &'a ZoneTables,
     pub ghost each: { length zones.now ≡ length places.now.codes.items },
     pub ghost zoned: { All (λ z. z < length tables.now.of_zone.items) zones.now },
-    pub ghost are_alike: { AreAlike places.now.codes.items tables.now.of_zone.items zones.now
-        alike.now },
+    pub ghost have_same_cone: { HaveSameCone places.now.codes.items tables.now.of_zone.items zones.now
+        same_cone.now },
 }

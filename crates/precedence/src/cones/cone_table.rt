@@ -1,7 +1,7 @@
 //! The table of a cone.
 
 ghost use Rattle.std.specs.Prelude.{◌≡◌, ◌^◌};
-ghost use Rattle.precedence.specs.inner.Beside.{AreNoWider};
+ghost use Rattle.precedence.specs.inner.Outside.{AreNoWider};
 ghost use Rattle.precedence.specs.inner.Rows.{pasts, LieApart};
 ghost use Rattle.precedence.specs.inner.RowsOnce.{LieApart-prop};
 

@@ -3,7 +3,7 @@
 ghost use Rattle.std.specs.Prelude.{◌≡◌, ◌*◌, ◌<◌, ◌≤◌, ◌^◌, false};
 ghost use Rattle.plan_parts.specs.PlanInvariant.{IsCone, IsGrid, IsSlope};
 ghost use Rattle.precedence.specs.Cone.{square};
-ghost use Rattle.precedence.specs.inner.Reach.{takes_in, slope_across, CountsAll, CountsRow, CountsSide};
+ghost use Rattle.precedence.specs.inner.Reach.{is_in_reach, slope_across, CountsAll, CountsRow, CountsSide};
 ghost use Rattle.plan_parts.specs.declared.ranges.TheConstants.{GRID_CELLS, MAX_SIZE, MAX_SLOPE};
 
 use crate::cones::cone_rows::{Reach, SideCounts};
@@ -96,9 +96,9 @@ fn squared(distance: u16, weight: u64) -> u128
 }
 
 #[tactic(auto, using(crate::proofs::Reaches::products))]
-fn takes_in(reach: Reach, distance: u16) -> bool
+fn is_in_reach(reach: Reach, distance: u16) -> bool
     requires { distance < GRID_CELLS }
-    ensures { result ≡ takes_in distance reach }
+    ensures { result ≡ is_in_reach distance reach }
 {
     squared(distance, reach.weight) + reach.used <= reach.reach
 }
@@ -107,10 +107,10 @@ fn takes_in(reach: Reach, distance: u16) -> bool
 fn raised(reach: Reach, count: u16) -> u16
     requires { count ≤ GRID_CELLS }
     ensures few { result ≤ GRID_CELLS }
-    ensures enough { result < GRID_CELLS → takes_in result reach ≡ false }
+    ensures enough { result < GRID_CELLS → is_in_reach result reach ≡ false }
 {
     let mut count = count;
-    while count < GRID_CELLS && takes_in(reach, count) {
+    while count < GRID_CELLS && is_in_reach(reach, count) {
         count += 1;
     }
     count
@@ -119,12 +119,12 @@ fn raised(reach: Reach, count: u16) -> u16
 // Lowers the count as long as its last distance is not inside.
 fn lowered(reach: Reach, count: u16) -> u16
     requires few { count ≤ GRID_CELLS }
-    requires enough { count < GRID_CELLS → takes_in count reach ≡ false }
+    requires enough { count < GRID_CELLS → is_in_reach count reach ≡ false }
     ensures few { result ≤ GRID_CELLS }
     ensures counts { CountsAll reach result }
 {
     let mut count = count;
-    while count > 0 && !takes_in(reach, count - 1) {
+    while count > 0 && !is_in_reach(reach, count - 1) {
         count -= 1;
     }
     count

@@ -2,7 +2,7 @@
 
 ghost use Rattle.std.specs.Prelude.{◌≡◌, ◌+◌, ◌-◌, ◌*◌, ◌<◌, ◌≤◌, ◌++◌, [], ◌∷◌, OnOk, IfOk, max};
 ghost use Rattle.plan_parts.specs.PlanInvariant.{IsCone, IsGrid};
-ghost use Rattle.precedence.specs.inner.Rows.{center, edge, IsTable, Tells};
+ghost use Rattle.precedence.specs.inner.Rows.{center, edge, IsTable, AreExactUpTo};
 ghost use Rattle.plan_parts.specs.declared.ranges.TheConstants.{GRID_CELLS};
 
 use crate::cones::cone_rows::{Extent, Row, SideCounts};
@@ -44,8 +44,8 @@ fn add_bench(
     requires cone { IsCone cone }
     requires up { 1 ≤ dz }
     requires within { dz ≤ cone.k }
-    requires before { Tells grid cone extent (edge extent.rows dz 0) rows.old.items }
-    ensures { OnOk result (Tells grid cone extent (edge extent.rows (dz + 1) 0) rows.new.items) }
+    requires before { AreExactUpTo grid cone extent (edge extent.rows dz 0) rows.old.items }
+    ensures { OnOk result (AreExactUpTo grid cone extent (edge extent.rows (dz + 1) 0) rows.new.items) }
 {
     let mut counts = SideCounts { west: 0, east: 0 };
     for i in 0..2 * extent.rows + 1 {

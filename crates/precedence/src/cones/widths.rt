@@ -1,7 +1,7 @@
 //! The widths and ends of a cone's rows.
 
 ghost use Rattle.std.specs.Prelude.{◌≡◌, ◌<◌, ◌≤◌, ◌^◌, IfOk};
-ghost use Rattle.precedence.specs.inner.Beside.{middle, AreNoWider};
+ghost use Rattle.precedence.specs.inner.Outside.{middle, AreNoWider};
 ghost use Rattle.precedence.specs.inner.Rows.{pasts};
 
 use crate::cones::cone_rows::{Row, Widths};

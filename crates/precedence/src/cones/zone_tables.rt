@@ -2,7 +2,7 @@
 
 ghost use Rattle.std.specs.Prelude.{◌≡◌, ◌<◌, IfOk, IfSome, OnOk, Some, All, length, slice_get, slice_index, slice_index_or};
 ghost use Rattle.plan_parts.specs.PlanInvariant.{IsCone, IsGrid};
-ghost use Rattle.precedence.specs.inner.ZoneTables.{HasTableAt, HasTables, IsTold};
+ghost use Rattle.precedence.specs.inner.ZoneTables.{HasTableAt, HasTables, IsExact};
 ghost use Rattle.precedence.specs.declared.cones.cone_table.ConeTable.{ConeTable};
 
 use crate::cones::bounds::extent_for;
@@ -72,8 +72,8 @@ fn place_of(
     requires grid { IsGrid grid }
     requires cone { IsCone cone }
     requires each { length extents.now ≡ length cones.now }
-    requires told { All (IsTold grid cones.now extents.now) tables.old.items }
-    ensures told { OnOk result (All (IsTold grid cones.now extents.now) tables.new.items) }
+    requires exact { All (IsExact grid cones.now extents.now) tables.old.items }
+    ensures exact { OnOk result (All (IsExact grid cones.now extents.now) tables.new.items) }
     ensures has { IfOk result (HasTableAt cone tables.old.items tables.new.items) }
 {
     if let Some(place) = find_cone(tables.as_slice(), cone) {
@@ -114,7 +114,7 @@ fn table_of(
     requires cone { IsCone cone }
     requires each { length extents.now ≡ length cones.now }
     ensures cone { IfOk result (λ table. table.cone ≡ cone) }
-    ensures told { IfOk result (IsTold grid cones.now extents.now) }
+    ensures exact { IfOk result (IsExact grid cones.now extents.now) }
 {
     let rows = cone_rows(alloc, grid, cone, extent_for(cones, extents, cone))?;
     let past = pasts_of(alloc, rows.as_slice())?;

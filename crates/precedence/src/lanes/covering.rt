@@ -1,10 +1,11 @@
 //! Covers: strips by which all lanes are dropped at many distances at once.
 
 ghost use Rattle.std.specs.Prelude.{◌≡◌, ◌+◌, ◌-◌, ◌*◌, ◌<◌, ◌≤◌, ◌^◌, ℕ, true, List, All, OnOk, IfOk, length};
+ghost use Rattle.precedence.specs.declared.lanes.covering.TheConstants.{COVERS};
 ghost use Rattle.precedence.specs.declared.lanes.strips.Cover.{Cover};
 ghost use Rattle.precedence.specs.declared.lanes.strips.Strips.{Strips};
 ghost use Rattle.precedence.specs.inner.lanes.Bits.{has_bit};
-ghost use Rattle.precedence.specs.inner.lanes.Windows.{Drops, IsCover, MayDrop, MeetsAny};
+ghost use Rattle.precedence.specs.inner.lanes.Windows.{AreCovers, Drops, IsCover, MayDrop, MeetsAny};
 ghost use Rattle.precedence.specs.inner.Rows.{is_in_rows};
 
 use crate::cones::cone_table::ConeTable;
@@ -16,8 +17,8 @@ use crate::lanes::strips::{Cover, Strips};
 use std::alloc::AllocError;
 use std::cell::Cell;
 
-// The largest number of covers that are kept.
-const COVERS: usize = 6;
+/// The largest number of covers that are kept.
+pub const COVERS: usize = 6;
 
 /// Returns a distance up to which (exclusive) a cover applies: at each distance from `distance` on, all lanes see a block between.
 pub fn all_covered_until(covers: &[Cover], tables: &[ConeTable], distance: u64) -> u64
@@ -108,8 +109,8 @@ pub fn drop_by_all(
 ) -> Result<u128, AllocError>
     requires distance { distance < 10 ^ 15 }
     requires each { length by_table.now ≡ length tables.now }
-    requires covers { All (IsCover lanes by_table.now) covers.old.items }
-    ensures covers { OnOk result (All (IsCover lanes by_table.now) covers.new.items) }
+    requires covers { AreCovers lanes by_table.now covers.old.items }
+    ensures covers { OnOk result (AreCovers lanes by_table.now covers.new.items) }
     ensures drops { IfOk result (λ rest. Drops (MeetsAny tables.now by_table.now distance) there rest) }
 {
     let mut rest = there;
@@ -169,8 +170,9 @@ fn first_unseen(lanes: u128, strip: &Strip, from: u32) -> u32
 
 // Keeps a cover, in place of the oldest one if `COVERS` are kept.
 fn keep_cover(covers: &mut Vec<Cover>, cover: Cover) -> Result<(), AllocError>
-    ensures { OnOk result ((lanes : ℕ) (by_table : List Strips) → All (IsCover lanes by_table) covers.old.items → IsCover lanes by_table cover
+    ensures all { OnOk result ((lanes : ℕ) (by_table : List Strips) → All (IsCover lanes by_table) covers.old.items → IsCover lanes by_table cover
         → All (IsCover lanes by_table) covers.new.items) }
+    ensures few { OnOk result (length covers.old.items ≤ COVERS → length covers.new.items ≤ COVERS) }
 {
     if covers.len() >= COVERS {
         covers.remove(0);

@@ -5,7 +5,7 @@ ghost use Rattle.precedence.specs.declared.lanes.strips.Strips.{Strips};
 ghost use Rattle.precedence.specs.declared.places.code.TheConstants.{CODES};
 ghost use Rattle.precedence.specs.inner.lanes.Bits.{has_bit};
 ghost use Rattle.precedence.specs.inner.lanes.Windows.{IsBlockAt, of_table, scene, Sees};
-ghost use Rattle.precedence.specs.inner.lanes.Looking.{EndBy, EndByOrLike, HasAdded, HasNone, IsLike, IsNext, IsPut, IsRowFrom, IsRun, TablesEndBy};
+ghost use Rattle.precedence.specs.inner.lanes.Looking.{EndBy, EndByOrLike, HasAdded, HasNone, IsLike, IsNext, IsPut, IsRowFrom, IsRange, TablesEndBy};
 ghost use Rattle.precedence.specs.inner.Rows.{is_in_rows, start_of};
 
 use crate::cones::block_cones::BlockCones;
@@ -142,7 +142,7 @@ fn add_strip(
     let mut word = 0;
     let mut id = strip.id as usize;
     while id < codes.len() && codes[id] < past {
-        let (bits, next) = run_from(cones, id, from, 128);
+        let (bits, next) = range_from(cones, id, from, 128);
         let number = cones.tables.of_zone[cones.zones[id] as usize];
         add_bits(&mut sight.by_table[number], strip, bits)?;
         word = joined(word, bits);
@@ -153,15 +153,15 @@ fn add_strip(
 
 // Returns the bits of the blocks from `id` on that follow one another along x and have the same cone, and the first block after them.
 #[inline(always)]
-fn run_from(cones: &BlockCones<'_>, id: usize, from: u64, most: u32) -> (u128, usize)
+fn range_from(cones: &BlockCones<'_>, id: usize, from: u64, most: u32) -> (u128, usize)
     requires id { id < length (scene cones.now).codes }
     requires low { from ≤ slice_index (scene cones.now).codes id }
     requires up { slice_index (scene cones.now).codes id < from + most }
     requires most { most ≤ 128 }
-    ensures { IsRun (scene cones.now) id result.1 from most result.0 }
+    ensures { IsRange (scene cones.now) id result.1 from most result.0 }
 {
     let first = cones.places.codes[id] - from;
-    let count = u64::from(cones.alike[id]).max(1);
+    let count = u64::from(cones.same_cone[id]).max(1);
     let past = (first + count).min(u64::from(most));
     (bits_between(first as u32, past as u32), id + count as usize)
 }
@@ -218,7 +218,7 @@ pub fn lanes_of(cones: &BlockCones<'_>, number: usize, id: usize) -> u128
     let mut lanes = 0;
     let mut id = id;
     while id < codes.len() && codes[id] < base + 64 {
-        let (bits, next) = run_from(cones, id, base, 64);
+        let (bits, next) = range_from(cones, id, base, 64);
         if cones.tables.of_zone[cones.zones[id] as usize] == number {
             lanes = joined(lanes, bits);
         }

@@ -1,7 +1,7 @@
 //! Computes the blocks that the lanes of a window retain.
 
-ghost use Rattle.std.specs.Prelude.{◌≡◌, ◌+◌, ◌^◌, ◌<◌, [], All, IfOk, OnOk, length};
-ghost use Rattle.precedence.specs.inner.lanes.Windows.{AreFound, AreFoundBy, Drops, IsCover, MeetsAny};
+ghost use Rattle.std.specs.Prelude.{◌≡◌, ◌+◌, ◌^◌, ◌<◌, [], IfOk, OnOk, length};
+ghost use Rattle.precedence.specs.inner.lanes.Windows.{AreCovers, AreFound, AreFoundBy, Drops, MeetsAny};
 
 use crate::cones::cone_table::ConeTable;
 use crate::lanes::bits::{seen_at, unseen};
@@ -42,9 +42,9 @@ fn serve_strip(
     requires few { lanes < 2 ^ 64 }
     requires number { number < length sight.now.all.strips.items }
     requires each { length sight.now.by_table.items ≡ length tables.now }
-    requires covers { All (IsCover lanes sight.now.by_table.items) covers.old.items }
+    requires covers { AreCovers lanes sight.now.by_table.items covers.old.items }
     requires found { AreFoundBy tables.now sight.now lanes number found.old.items }
-    ensures covers { OnOk result (All (IsCover lanes sight.now.by_table.items) covers.new.items) }
+    ensures covers { OnOk result (AreCovers lanes sight.now.by_table.items covers.new.items) }
     ensures found { OnOk result (AreFoundBy tables.now sight.now lanes (number + 1) found.new.items) }
 {
     let strip = sight.all.strips[number];
@@ -86,8 +86,8 @@ fn retained(
 ) -> Result<u128, AllocError>
     requires distance { distance < 10 ^ 15 }
     requires each { length sight.now.by_table.items ≡ length tables.now }
-    requires covers { All (IsCover lanes sight.now.by_table.items) covers.old.items }
-    ensures covers { OnOk result (All (IsCover lanes sight.now.by_table.items) covers.new.items) }
+    requires covers { AreCovers lanes sight.now.by_table.items covers.old.items }
+    ensures covers { OnOk result (AreCovers lanes sight.now.by_table.items covers.new.items) }
     ensures drops { IfOk result (λ rest. Drops (MeetsAny tables.now sight.now.by_table.items distance) there rest) }
 {
     let by_table = sight.by_table.as_slice();

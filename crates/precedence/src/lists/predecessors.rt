@@ -3,8 +3,8 @@
 ghost use Rattle.std.specs.Prelude.{◌≡◌, ◌-◌, ◌<◌, ◌≤◌, ◌++◌, [], ◌∷◌, OnOk, OnErr, Some, drop, length, slice_get, sum_by, take};
 ghost use Rattle.precedence.specs.inner.PredsFields.{pieces, start_at, AreEnds};
 
-use crate::lists::id_run::IdRun;
-use crate::lists::ids_as_runs::add_runs_of_ids;
+use crate::lists::id_range::IdRange;
+use crate::lists::ids_as_ranges::add_ranges_of_ids;
 use crate::lists::pred_lists::PredLists;
 use std::alloc::{AllocError, Global};
 use std::marker::Model;
@@ -98,8 +98,8 @@ impl PredLists for Preds {
         self.len()
     }
 
-    fn add_runs(&self, runs: &mut Vec<IdRun>, id: u32) -> Result<(), AllocError> {
-        add_runs_of_ids(runs, self.of(id))
+    fn add_ranges(&self, ranges: &mut Vec<IdRange>, id: u32) -> Result<(), AllocError> {
+        add_ranges_of_ids(ranges, self.of(id))
     }
 }
 

@@ -1,4 +1,4 @@
-//! Hashes of cells, which depend on the whole list.
+//! Hashes of cells, which depend on the complete list.
 
 ghost use Rattle.std.specs.Prelude.{◌≤◌, length};
 ghost use Rattle.plan_parts.specs.declared.ranges.TheConstants.{MAX_BLOCKS};
@@ -7,7 +7,7 @@ use crate::numbering::listed_blocks::ListedBlocks;
 use crate::places::code::code;
 use std::hash::{BuildHasher, DefaultHasher, Hasher};
 
-/// Hashes that begin with the cells of a whole list: if one block of the list changes, all hashes change. This is meant to make it hard
+/// Hashes that begin with the cells of a complete list: if one block of the list changes, all hashes change. This is meant to make it hard
 /// to choose blocks whose cells have similar hashes. No proof guarantees it, and only the time of a search depends on it.
 #[derive(Clone, Copy)]
 pub struct PlaceHashes {

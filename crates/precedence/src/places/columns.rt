@@ -3,7 +3,7 @@
 ghost use Rattle.std.specs.Prelude.{◌≡◌, ◌/◌, ◌<◌, ℕ, true, IfOk, length, slice_index_or};
 ghost use Rattle.plan_parts.specs.declared.block.Block.{Block};
 ghost use Rattle.precedence.specs.Codes.{place_codes};
-ghost use Rattle.precedence.specs.inner.Beside.{AreColumns};
+ghost use Rattle.precedence.specs.inner.Outside.{AreColumns};
 ghost use Rattle.precedence.specs.inner.lanes.Bits.{has_bit};
 ghost use Rattle.precedence.specs.declared.places.column.TheConstants.{COLUMN};
 

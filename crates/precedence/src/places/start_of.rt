@@ -20,7 +20,7 @@ pub fn start_of(numbers: &[u64], hint: usize, target: u64) -> usize
 }
 
 /// Returns whether the number at the hint is the last below the target, and another follows, as is mostly so for the next block of a row.
-#[tactic(auto, using(crate::proofs::runs::Starts::starts))]
+#[tactic(auto, using(crate::proofs::ranges::Starts::starts))]
 #[inline(always)]
 pub fn is_last_below(numbers: &[u64], hint: usize, target: u64) -> bool
     requires { IsStrictlyIncreasing numbers.now }
@@ -31,7 +31,7 @@ pub fn is_last_below(numbers: &[u64], hint: usize, target: u64) -> bool
 }
 
 // Returns the hint if all numbers before it are below the target, else 0.
-#[tactic(auto, using(crate::proofs::runs::Starts::starts))]
+#[tactic(auto, using(crate::proofs::ranges::Starts::starts))]
 #[inline(always)]
 fn checked_hint(numbers: &[u64], hint: usize, target: u64) -> usize
     requires { IsStrictlyIncreasing numbers.now }
@@ -45,7 +45,7 @@ fn checked_hint(numbers: &[u64], hint: usize, target: u64) -> usize
 }
 
 // Returns bounds of the result from `low` on, by steps that double.
-#[tactic(auto, using(crate::proofs::runs::Starts::starts))]
+#[tactic(auto, using(crate::proofs::ranges::Starts::starts))]
 #[inline(always)]
 fn bounds_by_doubling(numbers: &[u64], low: usize, target: u64) -> (usize, usize)
     requires rising { IsStrictlyIncreasing numbers.now }
@@ -64,7 +64,7 @@ fn bounds_by_doubling(numbers: &[u64], low: usize, target: u64) -> (usize, usize
 }
 
 // Returns the result between two bounds, by halving.
-#[tactic(auto, using(crate::proofs::runs::Starts::starts))]
+#[tactic(auto, using(crate::proofs::ranges::Starts::starts))]
 #[inline(always)]
 fn place_by_halving(numbers: &[u64], low: usize, high: usize, target: u64) -> usize
     requires rising { IsStrictlyIncreasing numbers.now }

@@ -1,5 +1,6 @@
 //! The end of a run: its outputs and its exit status.
 
+use command_io::ending::Streams;
 use command_io::refused::status::{DEVICE, REFUSED, RESOURCES, finish};
 use devices::sinks::write_sink::WriteSink;
 use std::alloc::Global;
@@ -142,13 +143,12 @@ fn outputs_that_fail(rt: HostRuntime) {
         for fails in [true, false] {
             let mut output = Narrow::new(rt.alloc(), end.output_room, fails);
             let mut errors = Narrow::new(rt.alloc(), end.errors_room, fails);
-            let answer = finish(
-                &mut WriteSink::new(&mut output),
-                &mut WriteSink::new(&mut errors),
-                end.status,
-                TEXT,
-                end.line,
-            );
+            let mut streams = Streams {
+                output: WriteSink::new(&mut output),
+                errors: WriteSink::new(&mut errors),
+            };
+            let answer = finish(&mut streams, end.status, TEXT, end.line);
+            drop(streams);
             assert!(rt; answer == ExitCode::from(end.answer), "{}", end.status);
             assert!(rt; output.held.as_slice() == end.output);
             assert!(rt; errors.held.as_slice() == end.errors);

@@ -78,12 +78,12 @@ impl Watch {
     /// Counts a requested worth, and waits.
     pub fn value(&self) {
         let asked = self.values.fetch_add(1, Ordering::SeqCst);
-        self.is_behind(&self.reported, asked);
+        self.count_early(&self.reported, asked);
         self.wait(&self.values, self.holds.value);
     }
 
     // Counts a call as early if the gate was called at most `asked` times before it; `asked` is the number of earlier calls.
-    fn is_behind(&self, reported: &AtomicU64, asked: u64) {
+    fn count_early(&self, reported: &AtomicU64, asked: u64) {
         if reported.load(Ordering::SeqCst) <= asked {
             self.early.fetch_add(1, Ordering::SeqCst);
         }
@@ -163,7 +163,7 @@ impl Feed for Looking {
 
     fn pull(&mut self, _buffer: &mut [u8]) -> Result<usize, FeedFault> {
         self.watch.pulls.fetch_add(1, Ordering::SeqCst);
-        self.watch.is_behind(&self.watch.readers, 0);
+        self.watch.count_early(&self.watch.readers, 0);
         Ok(0)
     }
 }

@@ -19,6 +19,9 @@ returns-in_err-gathered-clause-refused g c =
     }) (run_state (g.O.Opener.opened c.args.files.now) c.args.starts.now (sink_states g.S.Sink.state c.args.sinks.now))
     (run_state (g.O.Opener.opened c.open_all.new.files) c.run_with_starts.new.starts (sink_states g.S.Sink.state c.run_with_starts.new.sinks))
     g.O.Opened.Feed.state c.in_ok-feeds.feeds.items c.in_err-gathered.field-0.0 _ c.in_ok-feeds.ensures.opened refl
-    (λ kind e. (c.in_err-gathered.ensures.runs.settings kind).0 (ap Err e)) c.in_err-gathered.ensures.runs.refused
+    (λ kind. (
+      λ e. (c.in_err-gathered.ensures.runs.settings kind).0 (ap Err e),
+      λ h. cc ((c.in_err-gathered.ensures.runs.settings kind).1 h),
+    )) c.in_err-gathered.ensures.runs.refused
     (subst (λ n. AreStartsOf (c.args.settings.valuers + n) c.args.starts.now c.run_with_starts.new.starts c.in_err-gathered.field-0.0)
     (sym (length-map c.in_ok-feeds.feeds.items (λ feed. (g.O.Opened.Feed.state feed).remaining))) c.in_err-gathered.ensures.spends.short))

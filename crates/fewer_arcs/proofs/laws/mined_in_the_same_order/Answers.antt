@@ -1,4 +1,4 @@
-use Rattle.fewer_arcs.proofs.Told.{mined_back, mined_there}
+use Rattle.fewer_arcs.proofs.SameOptima.{mined_back, mined_there}
 use Rattle.fewer_arcs.proofs.laws.mined_in_the_same_order.Goals as goal
 
 pub returns : goal.returns

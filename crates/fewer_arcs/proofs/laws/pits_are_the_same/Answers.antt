@@ -1,4 +1,4 @@
-use Rattle.fewer_arcs.proofs.Told.{pit_back, pit_there}
+use Rattle.fewer_arcs.proofs.SameOptima.{pit_back, pit_there}
 use Rattle.fewer_arcs.proofs.laws.pits_are_the_same.Goals as goal
 
 pub returns : goal.returns

@@ -1,4 +1,4 @@
-use Rattle.fewer_arcs.proofs.Told.{schedule_back, schedule_there}
+use Rattle.fewer_arcs.proofs.SameOptima.{schedule_back, schedule_there}
 use Rattle.fewer_arcs.proofs.laws.schedules_are_the_same.Goals as goal
 
 pub returns : goal.returns

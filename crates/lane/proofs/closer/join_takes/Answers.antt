@@ -2,7 +2,7 @@ use Rattle.std.proofs.Common.{sym, ap, ◌∙◌, refl, map, rules}
 use Rattle.std.specs.Vec.Iter.{into_iter_items}
 use Rattle.lane.specs.Ends.{TakeEndView}
 use Rattle.lane.specs.EndFields.{SeatView}
-use Rattle.lane.proofs.Joining.{gather_begin, gather_more, gather_done, nothing_left, one_less}
+use Rattle.lane.proofs.Joining.{gather_begin, gather_more, gather_done, nothing_remains, one_less}
 use Rattle.lane.proofs.closer.join_takes.Goals as goal
 
 pub loop-take-init : goal.loop-take-init
@@ -26,7 +26,7 @@ loop-take-preserved c =
 pub returns : goal.returns
 returns c =
     let loop = c.loop-take in
-    let none = nothing_left (into_iter_items loop.take-iterator) (sym loop.invariant.2 ∙ c.in-None.ensures.steps.0) in
+    let none = nothing_remains (into_iter_items loop.take-iterator) (sym loop.invariant.2 ∙ c.in-None.ensures.steps.0) in
     let all = gather_done _ c.args.seat.now.lane _ _ _ (rw none at loop.invariant.1) refl c.requires.stopped.some_taker in
     record {
       lane = loop.invariant.0;

@@ -17,8 +17,8 @@ returns c =
     let lane = c.new.result.lane in
     let puts = c.in_ok-puts.puts in
     let takes = c.in_ok-takes.takes in
-    let are_puts : puts.items ≡ first_puts lane 0 files = rw (c.new.ensures.value, c.in_ok-takes.ensures.left, c.in_ok-puts.ensures.left) c.in_ok-puts.ensures.ends in
-    let are_takes : takes.items ≡ first_takes lane 0 valuers = rw (c.new.ensures.value, c.in_ok-takes.ensures.left) c.in_ok-takes.ensures.ends in
+    let are_puts : puts.items ≡ first_puts lane 0 files = rw (c.new.ensures.value, c.in_ok-takes.ensures.remaining, c.in_ok-puts.ensures.remaining) c.in_ok-puts.ensures.ends in
+    let are_takes : takes.items ≡ first_takes lane 0 valuers = rw (c.new.ensures.value, c.in_ok-takes.ensures.remaining) c.in_ok-takes.ensures.ends in
     let put_count : length puts.items ≡ files = rw c.in_ok-puts.ensures.ends (ends_count _ 0 files) in
     let take_count : length takes.items ≡ valuers = rw c.in_ok-takes.ensures.ends (ends_count _ 0 valuers) in
     record {

@@ -12,7 +12,7 @@ new-requires c = record {
 
 pub loop-file-preserved : goal.loop-file-preserved
 loop-file-preserved c = (
-  rw (c.in_ok-end.ensures.left, c.loop-file.invariant.0)
+  rw (c.in_ok-end.ensures.remaining, c.loop-file.invariant.0)
       (ap (λ v. record c.args.seat.now { known = v }) (put_given _ _ _ _ c.loop-file-test.true).1),
   rw (
     c.in_ok-push.ensures.items,

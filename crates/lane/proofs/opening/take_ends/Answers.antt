@@ -12,7 +12,7 @@ new-requires c = record {
 
 pub loop-taker-preserved : goal.loop-taker-preserved
 loop-taker-preserved c = (
-  rw (c.in_ok-end.ensures.left, c.loop-taker.invariant.0)
+  rw (c.in_ok-end.ensures.remaining, c.loop-taker.invariant.0)
       (ap (λ v. record c.args.seat.now { known = v }) (take_given c.args.files c.args.takers _ c.loop-taker.taker c.loop-taker-test.true).1),
   rw (
     c.in_ok-push.ensures.items,

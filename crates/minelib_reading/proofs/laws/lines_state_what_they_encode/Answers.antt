@@ -1,6 +1,6 @@
 use Rattle.text_lines.specs.TextLines.{fields_of}
 use Rattle.minelib_reading.proofs.lines.LineFacts.{block_exact, preds_exact}
-use Rattle.minelib_reading.proofs.models.ModelSteps.{coef_back, coef_step, key_encoded, key_read, limit_back, limit_step, values_back, values_step}
+use Rattle.minelib_reading.proofs.models.ModelSteps.{coef_added, key_encoded, key_read, limit_added, values_added}
 use Rattle.minelib_reading.proofs.laws.lines_state_what_they_encode.Goals as goal
 
 pub returns : goal.returns
@@ -9,7 +9,7 @@ returns c = record {
   preds = λ n own line ids. let x = preds_exact n own (fields_of line) in (x.reported ids, x.back ids);
   header = key_encoded;
   read = key_read;
-  values = λ d next fields. (values_step d fields next, values_back d fields next);
-  coefs = λ d next fields. (coef_step d fields next, coef_back d fields next);
-  limits = λ d next fields. (limit_step d fields next, limit_back d fields next);
+  values = λ d next fields. let x = values_added d fields in (x.reported next, x.back next);
+  coefs = λ d next fields. let x = coef_added d fields in (x.reported next, x.back next);
+  limits = λ d next fields. let x = limit_added d fields in (x.reported next, x.back next);
 }

@@ -10,7 +10,7 @@ use Rattle.mine_instance.specs.WellFormed.{HasDecimals}
 use Rattle.minelib_writing.specs.Written.{largest_line, limit_line}
 use Rattle.minelib_writing.proofs.ChosenFacts.{chosen_text}
 use Rattle.minelib_writing.proofs.KeptFacts.{kept_all}
-use Rattle.minelib_writing.proofs.LineFacts.{length-line_parts}
+use Rattle.minelib_writing.proofs.LineFacts.{line_parts_count}
 use Rattle.minelib_writing.proofs.files.write_chosen.Goals as goal
 
 pub returns : goal.returns
@@ -27,11 +27,11 @@ returns g c =
           (λ kept. record {
             name = c.of_one_destination.ensures.kept;
             values = All-map IsInDecimalRange largest i.values
-                (kept_all (λ of_block. IsInDecimalRange (largest of_block)) i.values _ (length-line_parts largest_line i.values) kept.0);
+                (kept_all (λ of_block. IsInDecimalRange (largest of_block)) i.values _ (line_parts_count largest_line i.values) kept.0);
             coefs = All-map (λ e. IsInDecimalRange e.v) at_only_destination _
                 (All-filter (is_chosen i.values) (λ c. IsInDecimalRange c.v) i.coefs
                 (kept_all (λ c. IsInDecimalRange c.v) i.coefs _ (length-map i.coefs _) kept.1));
-            limits = kept_all (λ l. HasDecimals l.bound) i.limits _ (length-line_parts limit_line i.limits) kept.2;
+            limits = kept_all (λ l. HasDecimals l.bound) i.limits _ (line_parts_count limit_line i.limits) kept.2;
           })
           (rw (c.as_slice.ensures, seen_values, seen_coefs, seen_limits) at c.write_text.ensures.kept);
       is = on_ok_weaker c.write_text.result (λ _. c.a_valid_instance_has_a_cpit.ensures i valid) c.write_text.ensures.kept;

@@ -8,7 +8,7 @@ use Rattle.mine_instance.specs.Instance.{Instance}
 use Rattle.mine_instance.specs.WellFormed.{HasDecimals}
 use Rattle.minelib_writing.specs.Written.{value_line, limit_line}
 use Rattle.minelib_writing.proofs.KeptFacts.{kept_all}
-use Rattle.minelib_writing.proofs.LineFacts.{length-line_parts}
+use Rattle.minelib_writing.proofs.LineFacts.{line_parts_count}
 use Rattle.minelib_writing.proofs.ByKeys.{pcpsp_by_keys}
 use Rattle.minelib_writing.proofs.files.write_pcpsp.Goals as goal
 
@@ -24,9 +24,9 @@ returns g c =
       kept = on_ok_weaker c.write_text.result
           (λ kept. record {
             name = c.of_instance.ensures.kept;
-            values = kept_all (λ values. All IsInDecimalRange values) i.values _ (length-line_parts value_line i.values) kept.0;
+            values = kept_all (λ values. All IsInDecimalRange values) i.values _ (line_parts_count value_line i.values) kept.0;
             coefs = kept_all (λ c. IsInDecimalRange c.v) i.coefs _ (length-map i.coefs (coef_part g.V.ValueList.list OfAll)) kept.1;
-            limits = kept_all (λ l. HasDecimals l.bound) i.limits _ (length-line_parts limit_line i.limits) kept.2;
+            limits = kept_all (λ l. HasDecimals l.bound) i.limits _ (line_parts_count limit_line i.limits) kept.2;
           })
           (rw (c.as_slice.ensures, seen_values, seen_coefs, seen_limits) at c.write_text.ensures.kept);
     }

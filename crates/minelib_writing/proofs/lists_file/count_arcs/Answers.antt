@@ -11,8 +11,8 @@ overflow_add-arcs g c =
 pub loop-id-preserved : goal.loop-id-preserved
 loop-id-preserved g c =
     let more = sum_by_more length (g.P.PredLists.lists c.args.preds.now) c.loop-id.id [] (omega (arith, c.loop-id-test.true, c.count-id-end.ensures)) in
-    let told = c.in_ok-list_len.ensures in
-    (omega (arith, more, c.loop-id.invariant.0, told.count, c.from.ensures), omega (arith, c.loop-id.invariant.1, told.countable, c.from.ensures))
+    let known = c.in_ok-list_len.ensures in
+    (omega (arith, more, c.loop-id.invariant.0, known.count, c.from.ensures), omega (arith, c.loop-id.invariant.1, known.countable, c.from.ensures))
 
 pub returns : goal.returns
 returns g c =

@@ -9,7 +9,7 @@ use Rattle.precedence.specs.declared.lanes.strips.Strips.{Strips}
 use Rattle.precedence.specs.declared.lanes.strips.Sight.{Sight}
 
 -- the blocks from `id` to `past` (exclusive) have cones of one table; the bits are their codes as seen from the code `from`, below `most`
-pub record IsRun (b : Scene) (id past from most bits : ℕ) : Type 0 where
+pub record IsRange (b : Scene) (id past from most bits : ℕ) : Type 0 where
   pub later : id < past
   pub within : past ≤ length b.codes
   pub table : (c : ℕ) → id ≤ c → c < past → table_of b c ≡ table_of b id

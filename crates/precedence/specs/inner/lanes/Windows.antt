@@ -8,6 +8,7 @@ use Rattle.precedence.specs.inner.ZoneTables.{rows_of_table}
 use Rattle.precedence.specs.declared.cones.block_cones.BlockCones.{BlockCones}
 use Rattle.precedence.specs.declared.cones.cone_rows.Row.{Row}
 use Rattle.precedence.specs.declared.cones.cone_table.ConeTable.{ConeTable}
+use Rattle.precedence.specs.declared.lanes.covering.TheConstants.{COVERS}
 use Rattle.precedence.specs.declared.lanes.strips.Found.{Found}
 use Rattle.precedence.specs.declared.lanes.strips.Cover.{Cover}
 use Rattle.precedence.specs.declared.lanes.strip.Strip.{Strip}
@@ -15,7 +16,7 @@ use Rattle.precedence.specs.declared.lanes.strips.Strips.{Strips}
 use Rattle.precedence.specs.declared.lanes.strips.Sight.{Sight}
 use Rattle.precedence.specs.declared.lanes.strips.Window.{Window}
 use Rattle.precedence.specs.declared.lanes.strips.Windows.{Windows}
-use Rattle.precedence.specs.IdRuns.{is_in}
+use Rattle.precedence.specs.IdRanges.{is_in}
 use Rattle.precedence.specs.inner.Between.{cone_of, is_in_cone, IsBetween}
 
 -- ---- bits: lane i sees the bit i + k of a strip at the strip's distance start + k
@@ -60,6 +61,11 @@ pub record IsCover (lanes : ℕ) (by_table : List Strips) (cover : Cover) : Type
   pub strip : (s : Strips) → cover.first < cover.past → cover.strip < length (slice_index_or by_table cover.table s).strips.items
   pub all : (i e : ℕ) (s : Strips) (t : Strip) → cover.first ≤ e → e < cover.past → has_bit lanes i ≡ true
       → SeesAt (slice_index_or (slice_index_or by_table cover.table s).strips.items cover.strip t) i e
+
+-- at most `COVERS` covers
+pub record AreCovers (lanes : ℕ) (by_table : List Strips) (covers : List Cover) : Type 0 where
+  pub all : All (IsCover lanes by_table) covers
+  pub few : length covers ≤ COVERS
 
 -- the lane is among the lanes found at a distance
 abbrev pub IsFoundFor : List Found → (i distance : ℕ) → Type 0

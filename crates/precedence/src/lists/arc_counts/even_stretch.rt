@@ -2,14 +2,14 @@
 
 ghost use Rattle.std.specs.Prelude.{◌≡◌, ◌+◌, ◌*◌, ◌<◌, ◌≤◌, ◌^◌, All, if◌then◌else◌, length, slice_index, sum_by, take};
 ghost use Rattle.std.specs.List.Sorted.{IsStrictlyIncreasing};
-ghost use Rattle.precedence.specs.inner.Alike.{FollowAlong};
-ghost use Rattle.precedence.specs.inner.Arcs.{count_in, GoesOn, IsRunOf};
+ghost use Rattle.precedence.specs.inner.SameCone.{FollowAlong};
+ghost use Rattle.precedence.specs.inner.Arcs.{count_in, Continues, IsRangeOf};
 ghost use Rattle.precedence.specs.inner.Rows.{start_of};
 ghost use Rattle.precedence.specs.declared.places.code.TheConstants.{CODES};
 ghost use Rattle.plan_parts.specs.declared.ranges.TheConstants.{MAX_BLOCKS};
 
 use crate::cones::cone_rows::Row;
-use crate::lists::row_runs::Hint;
+use crate::lists::row_ranges::Hint;
 use crate::places::Places;
 
 /// The number of blocks in a stretch, the number of arcs of all of them in a row, and the row's range for the last of them.
@@ -20,44 +20,44 @@ pub struct Stretch {
     pub last: Hint,
 }
 
-/// Returns the stretch from index `k` on, as far as the numbers in the row change evenly. `run` is the row's range for the first block.
+/// Returns the stretch from index `k` on, as far as the numbers in the row change evenly. `range` is the row's range for the first block.
 /// `follow` has, for each code, the number of codes from it on that follow one another.
 #[inline(always)]
 pub fn stretch_from(
     places: &Places,
-    alike: &[u16],
+    same_cone: &[u16],
     own: &[u64],
     follow: &[u16],
     row: Row,
     k: usize,
-    run: Hint,
+    range: Hint,
 ) -> Stretch
-    requires alike { FollowAlong places.now.codes.items alike.now }
+    requires same_cone { FollowAlong places.now.codes.items same_cone.now }
     requires follow { FollowAlong own.now follow.now }
     requires small { All (λ c. c < CODES) own.now }
     requires k { k < length own.now }
-    requires run { IsRunOf places.now.codes.items (slice_index own.now k) row run }
+    requires range { IsRangeOf places.now.codes.items (slice_index own.now k) row range }
     ensures some { 0 < result.blocks }
     ensures within { k + result.blocks ≤ length own.now }
     ensures arcs { sum_by (count_in places.now.codes.items row) (take (k + result.blocks) own.now)
         ≡ sum_by (count_in places.now.codes.items row) (take k own.now) + result.arcs }
     ensures few { result.arcs ≤ result.blocks * MAX_BLOCKS }
 {
-    let here = u64::from(run.past - run.first);
+    let here = u64::from(range.past - range.first);
     let most = u64::from(follow[k]).saturating_sub(1);
     if most == 0 {
         return Stretch {
             blocks: 1,
             arcs: here,
-            last: run,
+            last: range,
         };
     }
-    let first = course_of(places, alike, own[k] + row.first, run.first as usize);
-    let past = course_of(places, alike, own[k] + row.past, run.past as usize);
+    let first = course_of(places, same_cone, own[k] + row.first, range.first as usize);
+    let past = course_of(places, same_cone, own[k] + row.past, range.past as usize);
     let steps = most.min(first.steps).min(past.steps);
     let last = Hint {
-        first: moved(first, run.first, steps as u32),
-        past: moved(past, run.past, steps as u32),
+        first: shifted(first, range.first, steps as u32),
+        past: shifted(past, range.past, steps as u32),
     };
     let there = u64::from(last.past.saturating_sub(last.first));
     Stretch {
@@ -76,10 +76,10 @@ struct Course {
 
 // Returns the course from this target, whose start is `start`.
 #[inline(always)]
-fn course_of(places: &Places, alike: &[u16], target: u64, start: usize) -> Course
-    requires alike { FollowAlong places.now.codes.items alike.now }
+fn course_of(places: &Places, same_cone: &[u16], target: u64, start: usize) -> Course
+    requires same_cone { FollowAlong places.now.codes.items same_cone.now }
     requires start { start ≡ start_of target places.now.codes.items }
-    ensures { GoesOn places.now.codes.items target start result.steps result.moves }
+    ensures { Continues places.now.codes.items target start result.steps result.moves }
 {
     if start >= places.codes.len() {
         return Course {
@@ -95,7 +95,7 @@ fn course_of(places: &Places, alike: &[u16], target: u64, start: usize) -> Cours
         }
     } else {
         Course {
-            steps: u64::from(alike[start]),
+            steps: u64::from(same_cone[start]),
             moves: true,
         }
     }
@@ -103,7 +103,7 @@ fn course_of(places: &Places, alike: &[u16], target: u64, start: usize) -> Cours
 
 // Returns the start after `steps` steps.
 #[inline(always)]
-fn moved(course: Course, start: u32, steps: u32) -> u32
+fn shifted(course: Course, start: u32, steps: u32) -> u32
     requires { start + steps < 2 ^ 32 }
     ensures { result ≡ start + (if course.moves then steps else 0) }
 {

@@ -340,7 +340,7 @@ fn refusal_of(alloc: Global, model: &Model, making: &Making) -> Result<Option<Re
 }
 
 // Returns the number of complete files after this error, and the number of bytes that the failing sink took, if one failed.
-fn left_by(refusal: Option<Refusal>, failing: Option<Failing>) -> (usize, Option<usize>) {
+fn state_after(refusal: Option<Refusal>, failing: Option<Failing>) -> (usize, Option<usize>) {
     match (refusal, failing) {
         (None, _) => (5, None),
         (Some(Refusal::SinkFailed { which }), Some(Failing { nth, step, .. })) => {
@@ -363,7 +363,13 @@ fn place_of(which: TextName) -> usize {
 }
 
 // Returns whether a sink is in its expected state: complete, cut off by its failure, or not begun.
-fn is_left(sink: &MemSink, text: &[u8], place: usize, whole: usize, prefix: Option<usize>) -> bool {
+fn is_as_expected(
+    sink: &MemSink,
+    text: &[u8],
+    place: usize,
+    whole: usize,
+    prefix: Option<usize>,
+) -> bool {
     if place < whole {
         return sink.begun() && sink.bytes() == text;
     }
@@ -376,7 +382,7 @@ fn is_left(sink: &MemSink, text: &[u8], place: usize, whole: usize, prefix: Opti
     }
 }
 
-fn are_left(
+fn are_as_expected(
     alloc: Global,
     model: &Model,
     sinks: &Sinks<MemSink>,
@@ -386,7 +392,7 @@ fn are_left(
     for name in TextName::all() {
         let text = text_of(alloc, model, name)?;
         let sink = sink_of(sinks, name);
-        if !is_left(sink, text.as_bytes(), place_of(name), whole, prefix) {
+        if !is_as_expected(sink, text.as_bytes(), place_of(name), whole, prefix) {
             return Ok(false);
         }
     }
@@ -442,9 +448,9 @@ fn random_run<R: Threads + Wait + Sync + Abort>(
         None => Ok(model.file_of.len() as u64),
     };
     assert!(rt; answered == expected, "seed {seed}");
-    let (whole, prefix) = left_by(refusal, making.failing);
+    let (whole, prefix) = state_after(refusal, making.failing);
     assert!(rt;
-        are_left(alloc, &model, &sinks, whole, prefix)?,
+        are_as_expected(alloc, &model, &sinks, whole, prefix)?,
         "seed {seed}"
     );
     Ok(())

@@ -1,4 +1,4 @@
-use Rattle.std.proofs.Common.{◌≡◌, ◌∙◌, ◌+◌, ◌++◌, [], ◌∷◌, Err, ap, map, refl, string_bytes, subst, sym}
+use Rattle.std.proofs.Common.{◌≡◌, ◌∙◌, ◌+◌, ◌++◌, ℕ, [], ◌∷◌, Err, ap, map, refl, string_bytes, subst, sym}
 use Rattle.std.proofs.lemmas.List.{length-map}
 use Rattle.std.proofs.lemmas.Result.{err_from_is_err_and}
 use Rattle.devices.specs.feeds.FeedState.{all_remaining}
@@ -26,8 +26,10 @@ returns-in_err-instance-clause-refused g c =
     }) (run_state (g.O.Opener.opened c.args.files.now) c.args.starts.now (g.S.Sink.state c.args.sink.now))
     (run_state (g.O.Opener.opened c.open_all.new.files) c.compile_with_starts.new.starts (g.S.Sink.state c.args.sink.now)) g.O.Opened.Feed.state
     c.in_ok-feeds.feeds.items c.in_err-instance.field-0.0 _ c.in_ok-feeds.ensures.opened refl
-    (λ kind e. subst (λ n. IsSettingsFault c.args.plan.now n (formulas_of c.args.destinations.now) c.args.settings kind) (sym many)
-    ((c.in_err-instance.ensures.compiles.settings kind).0 (ap Err e))) c.in_err-instance.ensures.compiles.refused
+    (λ kind.
+    let at : ℕ → Type 0 = λ n. IsSettingsFault c.args.plan.now n (formulas_of c.args.destinations.now) c.args.settings kind in
+    let exact = c.in_err-instance.ensures.compiles.settings kind in
+    (λ e. subst at (sym many) (exact.0 (ap Err e)), λ h. cc (exact.1 (subst at many h)))) c.in_err-instance.ensures.compiles.refused
     (subst (λ n. AreStartsOf (c.args.settings.valuers + n) c.args.starts.now c.compile_with_starts.new.starts c.in_err-instance.field-0.0)
     (sym many) c.in_err-instance.ensures.spends.short) refl)
 
@@ -41,7 +43,7 @@ returns-in_err-counts-clause-refused g c =
       zones = map string_bytes c.args.zones.now;
       settings = c.args.settings;
     }) (run_state (g.O.Opener.opened c.args.files.now) c.args.starts.now (g.S.Sink.state c.args.sink.now))
-    (run_state (g.O.Opener.opened c.open_all.new.files) c.compile_with_starts.new.starts (g.S.Sink.state c.write_fewer.new.sink)) (all_remaining g.O.Opened.Feed.state c.in_ok-feeds.feeds.items)
+    (run_state (g.O.Opener.opened c.open_all.new.files) c.compile_with_starts.new.starts (g.S.Sink.state c.write_reduced.new.sink)) (all_remaining g.O.Opened.Feed.state c.in_ok-feeds.feeds.items)
     c.in_ok-instance.field-0 c.in_ok-feeds.ensures.opened c.in_ok-instance.ensures.compiles.done
     (subst (λ n. AreSpent (c.args.settings.valuers + n) c.compile_with_starts.new.starts) (sym many) c.in_ok-instance.ensures.spends.started) in
     rw (p.1, p.2) (cut_off (record {
@@ -50,13 +52,13 @@ returns-in_err-counts-clause-refused g c =
       zones = map string_bytes c.args.zones.now;
       settings = c.args.settings;
     }) (run_state (g.O.Opener.opened c.args.files.now) c.args.starts.now (g.S.Sink.state c.args.sink.now))
-    (run_state (g.O.Opener.opened c.open_all.new.files) c.compile_with_starts.new.starts (g.S.Sink.state c.write_fewer.new.sink)) g.O.Opened.Feed.state
+    (run_state (g.O.Opener.opened c.open_all.new.files) c.compile_with_starts.new.starts (g.S.Sink.state c.write_reduced.new.sink)) g.O.Opened.Feed.state
     c.in_ok-instance.field-0.instance c.in_err-counts.field-0.0 _ refl read c.in_err-counts.ensures.refused)
 
 pub returns-in_err-append_counts-clause-refused : goal.returns-in_err-append_counts-clause-refused
 returns-in_err-append_counts-clause-refused g c =
     let p = err_from_is_err_and c.from_residual-in_err-append_counts.result c.from_residual-in_err-append_counts.ensures.1 in
-    let told : c.from_residual-in_err-append_counts.result ≡ Err (Run OutOfMemory) = cc (p.1, p.2) in
+    let reported : c.from_residual-in_err-append_counts.result ≡ Err (Run OutOfMemory) = cc (p.1, p.2) in
     let many = length-map c.in_ok-feeds.feeds.items (λ feed. (g.O.Opened.Feed.state feed).remaining) in
     let read = was_read (record {
       plan = c.args.plan.now;
@@ -64,16 +66,16 @@ returns-in_err-append_counts-clause-refused g c =
       zones = map string_bytes c.args.zones.now;
       settings = c.args.settings;
     }) (run_state (g.O.Opener.opened c.args.files.now) c.args.starts.now (g.S.Sink.state c.args.sink.now))
-    (run_state (g.O.Opener.opened c.open_all.new.files) c.compile_with_starts.new.starts (g.S.Sink.state c.write_fewer.new.sink)) (all_remaining g.O.Opened.Feed.state c.in_ok-feeds.feeds.items)
+    (run_state (g.O.Opener.opened c.open_all.new.files) c.compile_with_starts.new.starts (g.S.Sink.state c.write_reduced.new.sink)) (all_remaining g.O.Opened.Feed.state c.in_ok-feeds.feeds.items)
     c.in_ok-instance.field-0 c.in_ok-feeds.ensures.opened c.in_ok-instance.ensures.compiles.done
     (subst (λ n. AreSpent (c.args.settings.valuers + n) c.compile_with_starts.new.starts) (sym many) c.in_ok-instance.ensures.spends.started) in
-    rw told (refused_line (record {
+    rw reported (refused_line (record {
       plan = c.args.plan.now;
       formulas = formulas_of c.args.destinations.now;
       zones = map string_bytes c.args.zones.now;
       settings = c.args.settings;
     }) (run_state (g.O.Opener.opened c.args.files.now) c.args.starts.now (g.S.Sink.state c.args.sink.now))
-    (run_state (g.O.Opener.opened c.open_all.new.files) c.compile_with_starts.new.starts (g.S.Sink.state c.write_fewer.new.sink)) g.O.Opened.Feed.state
+    (run_state (g.O.Opener.opened c.open_all.new.files) c.compile_with_starts.new.starts (g.S.Sink.state c.write_reduced.new.sink)) g.O.Opened.Feed.state
     c.in_ok-instance.field-0.instance (Run OutOfMemory) read c.in_ok-counts.ensures.written refl)
 
 pub returns-clause-done : goal.returns-clause-done
@@ -85,11 +87,11 @@ returns-clause-done g c =
       zones = map string_bytes c.args.zones.now;
       settings = c.args.settings;
     }) (run_state (g.O.Opener.opened c.args.files.now) c.args.starts.now (g.S.Sink.state c.args.sink.now))
-    (run_state (g.O.Opener.opened c.open_all.new.files) c.compile_with_starts.new.starts (g.S.Sink.state c.write_fewer.new.sink)) (all_remaining g.O.Opened.Feed.state c.in_ok-feeds.feeds.items)
+    (run_state (g.O.Opener.opened c.open_all.new.files) c.compile_with_starts.new.starts (g.S.Sink.state c.write_reduced.new.sink)) (all_remaining g.O.Opened.Feed.state c.in_ok-feeds.feeds.items)
     c.in_ok-instance.field-0 c.in_ok-feeds.ensures.opened c.in_ok-instance.ensures.compiles.done
     (subst (λ n. AreSpent (c.args.settings.valuers + n) c.compile_with_starts.new.starts) (sym many) c.in_ok-instance.ensures.spends.started) in (
       c.in_ok-instance.field-0.instance,
       record { read = read; written = c.in_ok-counts.ensures.written },
-      c.in_ok-append_counts.ensures.told
+      c.in_ok-append_counts.ensures.reported
           ∙ ap (λ (counts : ThinCounts). c.args.out.now.items ++ (counts_words counts ++ 10 ∷ [])) c.in_ok-counts.ensures.counts,
     )

@@ -1,7 +1,7 @@
 use Rattle.std.proofs.Common.{◌≡◌, ◌++◌, take, drop, length}
 use Rattle.std.specs.Prelude.{IsFalse, IsTrue}
 use Rattle.plan_parts.specs.Destinations.{formulas_of}
-use Rattle.valuers.specs.Valuing.{items_by, WereAsked, WerePassed}
+use Rattle.valuers.specs.Valuing.{items_by, WereCalled, WerePassed}
 use Rattle.valuers.proofs.valuer.take_all.Given as goal
 
 abbrev pub invariant-loop : goal.invariant-loop
@@ -16,5 +16,5 @@ invariant-loop g l =
       width : g.K.Keeps.is_for l.items (length l.destinations);
       full : IsTrue l.memory → g.K.Keeps.is_full l.items (length l.destinations);
       passed : WerePassed (g.G.Gate.passed_row l.gate l.valuer) (g.K.Keeps.held l.items);
-      asked : WereAsked (λ v b r. (goal.Fn-dyn g).post (v.vtable, v.value) (b, record {}) r) l.destinations (g.K.Keeps.held l.items);
+      asked : WereCalled (λ v b r. (goal.Fn-dyn g).post (v.vtable, v.value) (b, record {}) r) l.destinations (g.K.Keeps.held l.items);
     }

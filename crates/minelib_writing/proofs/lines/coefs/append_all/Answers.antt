@@ -1,13 +1,11 @@
-use Rattle.std.proofs.Common.{◌≡◌, ◌<◌, ◌++◌, ◌∷◌, ◌∙◌, take, get_or, ap, sym, arith}
+use Rattle.std.proofs.Common.{◌≡◌, ◌<◌, ◌++◌, ◌∷◌, ◌∙◌, get_or, ap, sym, arith}
 use Rattle.std.specs.Prelude.{decimal}
-use Rattle.std.proofs.lemmas.List.{get_or_default, take_all}
-use Rattle.std.proofs.lemmas.List.Folds.{flat_map-map}
-use Rattle.std.specs.List.{flat_map}
+use Rattle.std.proofs.lemmas.List.{get_or_default}
 use Rattle.mine_instance.specs.coefs.Groups.{pairs_of}
 use Rattle.mine_instance.specs.coefs.CoveredPairs.{coef_of}
 use Rattle.minelib_writing.specs.inner.CoefParts.{coef_text}
 use Rattle.pit_units.specs.Line.{line_in}
-use Rattle.minelib_writing.proofs.CoefFacts.{coef_text_is, next_line, of_pair}
+use Rattle.minelib_writing.proofs.CoefFacts.{all_lines, coef_text_is, next_line, of_pair}
 use Rattle.minelib_writing.proofs.lines.coefs.append_all.Goals as goal
 
 pub append_coef-requires-clause-digits : goal.append_coef-requires-clause-digits
@@ -37,9 +35,5 @@ loop-d-preserved c =
 
 pub returns-clause-text : goal.returns-clause-text
 returns-clause-text c =
-    let group = c.args.group.now in
-    let pairs = c.as_slice-d-items.result.now in
-    let all : take c.loop-d.d-index pairs ≡ pairs_of group.pairs =
-    take_all c.loop-d.d-index pairs (omega (arith, c.loop-d-test.false)) ∙ c.as_slice-d-items.ensures in
-    c.loop-d.invariant.text ∙ ap (λ ps. c.args.out.now.items ++ flat_map (λ pair. coef_text (coef_of group.b group.v pair)) ps) all
-    ∙ ap (λ text. c.args.out.now.items ++ text) (sym (flat_map-map coef_text (coef_of group.b group.v) (pairs_of group.pairs)))
+    all_lines coef_text c.args.group.now.b c.args.group.now.v c.args.out.now.items c.loop-d.out.items _ (pairs_of c.args.group.now.pairs)
+    c.loop-d.d-index c.as_slice-d-items.ensures (omega (arith, c.loop-d-test.false)) c.loop-d.invariant.text

@@ -1,13 +1,11 @@
-use Rattle.std.proofs.Common.{◌≡◌, ℕ, List, true, false, eq-eqb, ◌<◌, ◌++◌, ◌∷◌, ◌∙◌, [], take, get_or, ap, sym, arith, append-nil}
+use Rattle.std.proofs.Common.{◌≡◌, ℕ, List, true, false, eq-eqb, ◌<◌, ◌++◌, ◌∷◌, ◌∙◌, [], get_or, ap, sym, arith, append-nil}
 use Rattle.std.specs.Prelude.{decimal, if◌then◌else◌, ◌==◌}
-use Rattle.std.proofs.lemmas.List.{get_or_default, take_all}
-use Rattle.std.proofs.lemmas.List.Folds.{flat_map-map}
-use Rattle.std.specs.List.{flat_map}
+use Rattle.std.proofs.lemmas.List.{get_or_default}
 use Rattle.mine_instance.specs.coefs.Groups.{pairs_of}
 use Rattle.mine_instance.specs.coefs.CoveredPairs.{coef_of}
 use Rattle.minelib_writing.specs.inner.CoefParts.{cpit_coef_text}
 use Rattle.pit_units.specs.Line.{line_in}
-use Rattle.minelib_writing.proofs.CoefFacts.{cpit_coef_text_is, differ, next_line, of_pair}
+use Rattle.minelib_writing.proofs.CoefFacts.{all_lines, cpit_coef_text_is, differ, next_line, of_pair}
 use Rattle.minelib_writing.proofs.lines.coefs.append_at.Goals as goal
 use Rattle.minelib_writing.proofs.lines.coefs.append_at.Goals.{then-from-destination+in_ok-append_chosen, else-from-destination}
 
@@ -58,12 +56,6 @@ loop-d-preserved c =
 
 pub returns-clause-text : goal.returns-clause-text
 returns-clause-text c =
-    let group = c.args.group.now in
-    let at = c.args.destination in
-    let pairs = c.as_slice-d-items.result.now in
-    let all : take c.loop-d.d-index pairs ≡ pairs_of group.pairs =
-    take_all c.loop-d.d-index pairs (omega (arith, c.loop-d-test.false)) ∙ c.as_slice-d-items.ensures in
-    c.loop-d.invariant.text
-    ∙ ap (λ ps. c.args.out.now.items ++ flat_map (λ pair. if pair.0 == at then cpit_coef_text (coef_of group.b group.v pair) else []) ps) all
-    ∙ ap (λ text. c.args.out.now.items ++ text)
-    (sym (flat_map-map (λ e. if e.d == at then cpit_coef_text e else []) (coef_of group.b group.v) (pairs_of group.pairs)))
+    all_lines (λ e. if e.d == c.args.destination then cpit_coef_text e else []) c.args.group.now.b c.args.group.now.v c.args.out.now.items
+    c.loop-d.out.items _ (pairs_of c.args.group.now.pairs) c.loop-d.d-index
+    c.as_slice-d-items.ensures (omega (arith, c.loop-d-test.false)) c.loop-d.invariant.text

@@ -55,12 +55,12 @@ loop-i-preserved c =
       holds = held;
       north = one.north had.north;
       top = one.top had.top;
-      near = λ k j d e le behind lt. ⊎_elim
+      near = λ k j d e le after lt. ⊎_elim
           (λ same. rw (block_is k d same) (rw (get_or-set_same extents b.zone more e zone)
           (c.extent_to_bounds.ensures.within (get_or blocks j d) (held j d (omega arith) lt))))
           (λ other. still_reaches extents b.zone (get_or blocks k d).zone more e (get_or blocks k d) (get_or blocks j d) zone
           (rw was c.extent_to_bounds.ensures.wider)
-          (had.near k j d e (omega (arith, other)) behind lt))
+          (had.near k j d e (omega (arith, other)) after lt))
           (cases_eq k i);
     }
 

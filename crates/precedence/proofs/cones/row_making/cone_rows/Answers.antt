@@ -1,9 +1,9 @@
 use Rattle.std.proofs.Common.{◌≡◌, ◌+◌, ◌∙◌, min, ap, arith}
-use Rattle.precedence.proofs.Tables.{tells_none, is_table}
+use Rattle.precedence.proofs.Tables.{exact_without_rows, is_table}
 use Rattle.precedence.proofs.cones.row_making.cone_rows.Goals as goal
 
 pub loop-dz-init : goal.loop-dz-init
-loop-dz-init c = rw c.new-rows.ensures.items (tells_none c.args.grid c.args.cone c.args.extent)
+loop-dz-init c = rw c.new-rows.ensures.items (exact_without_rows c.args.grid c.args.cone c.args.extent)
 
 pub returns : goal.returns
 returns c =

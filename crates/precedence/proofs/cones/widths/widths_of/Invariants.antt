@@ -1,5 +1,5 @@
 use Rattle.std.proofs.Common.{ℕ, ◌<◌, get_or}
-use Rattle.precedence.specs.inner.Beside.{IsNoWider}
+use Rattle.precedence.specs.inner.Outside.{IsNoWider}
 use Rattle.precedence.specs.declared.cones.cone_rows.Row.{Row}
 use Rattle.precedence.proofs.cones.widths.widths_of.Given as goal
 

@@ -14,8 +14,8 @@ invariant_of-result-clause-all_past c = c.in_ok-past.ensures ∙ ap pasts c.as_s
 pub invariant_of-result-clause-no_wider : goal.invariant_of-result-clause-no_wider
 invariant_of-result-clause-no_wider c = rw c.as_slice-3.ensures.value at c.widths_of-widths.ensures
 
-pub returns-clause-told : goal.returns-clause-told
-returns-clause-told c =
+pub returns-clause-exact : goal.returns-clause-exact
+returns-clause-exact c =
     let rows = c.in_ok-rows.rows.items in
     let table = c.in_ok-rows.ensures in
     record {

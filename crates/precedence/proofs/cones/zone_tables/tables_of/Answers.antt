@@ -26,5 +26,5 @@ loop-cone-preserved c =
           (e.has.cone_is table ∙ get_or_default c.args.cones.now c.loop-cone.cone-index _ cone c.loop-cone-test.true
           ∙ ap (λ k. get_or c.args.cones.now k cone) (sym here)))
           (cases_lt z c.loop-cone.cone-index));
-      told = e.told;
+      exact = e.exact;
     }

@@ -2,7 +2,7 @@ use Rattle.std.proofs.Common.{◌-◌, ◌^◌, ◌<◌, ◌≤◌, length, ap, 
 use Rattle.precedence.specs.declared.cones.cone_rows.Row.{Row}
 use Rattle.precedence.proofs.bits.Covering.{row_covers}
 use Rattle.precedence.proofs.bits.RowsMet.{past_rises, row_some}
-use Rattle.precedence.proofs.runs.RowOfCode.{row_is}
+use Rattle.precedence.proofs.ranges.RowOfCode.{row_is}
 use Rattle.precedence.proofs.lanes.covering.covered_until.Goals as goal
 
 pub start_near-row-requires : goal.start_near-row-requires

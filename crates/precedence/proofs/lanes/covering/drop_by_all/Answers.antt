@@ -1,5 +1,5 @@
-use Rattle.std.proofs.Common.{◌+◌, ◌<◌, length, All, sym, subst, arith}
-use Rattle.precedence.specs.inner.lanes.Windows.{IsCover}
+use Rattle.std.proofs.Common.{◌+◌, ◌<◌, length, sym, subst, arith}
+use Rattle.precedence.specs.inner.lanes.Windows.{AreCovers}
 use Rattle.precedence.proofs.bits.Covering.{MeetsTables, more_tables, this_table, last_table, any_of_tables, tables_of_any, cover_is}
 use Rattle.precedence.proofs.bits.Dropping.{drops_more, drops_so}
 use Rattle.precedence.proofs.lanes.covering.drop_by_all.Goals.{then-place-len+in_ok-keep_cover, else-place-len}
@@ -18,12 +18,14 @@ loop-number-preserved c =
         | then-place-len+in_ok-keep_cover w ↦
             let strip = w.index.result.now in
             let inside : c.get-place.result < length strips.strips.items = omega (arith, w.if-place-len, c.len.ensures) in
-            subst (λ cs. All (IsCover c.args.lanes by_table) cs) (λ i. (sym w.covers-is i).items)
-            (w.in_ok-keep_cover.ensures c.args.lanes by_table c.loop-number.invariant.covers
-            (cover_is by_table c.args.lanes number c.get-place.result strips strip w.cover_of-cover.result (omega (arith, lt, c.requires.each))
-            c.index-by_table-number.is inside w.index.ensures w.cover_of-cover.ensures.table w.cover_of-cover.ensures.strip
-            w.cover_of-cover.ensures.first w.cover_of-cover.ensures.past w.cover_of-cover.ensures.all))
-        | else-place-len w ↦ subst (λ cs. All (IsCover c.args.lanes by_table) cs) (λ i. (sym w.covers-is i).items) c.loop-number.invariant.covers
+            subst (λ cs. AreCovers c.args.lanes by_table cs) (λ i. (sym w.covers-is i).items) (record {
+              all = w.in_ok-keep_cover.ensures.all c.args.lanes by_table c.loop-number.invariant.covers.all
+                  (cover_is by_table c.args.lanes number c.get-place.result strips strip w.cover_of-cover.result (omega (arith, lt, c.requires.each))
+                  c.index-by_table-number.is inside w.index.ensures w.cover_of-cover.ensures.table w.cover_of-cover.ensures.strip
+                  w.cover_of-cover.ensures.first w.cover_of-cover.ensures.past w.cover_of-cover.ensures.all);
+              few = w.in_ok-keep_cover.ensures.few c.loop-number.invariant.covers.few;
+            })
+        | else-place-len w ↦ subst (λ cs. AreCovers c.args.lanes by_table cs) (λ i. (sym w.covers-is i).items) c.loop-number.invariant.covers
       ];
       drops = drops_more (MeetsTables tables by_table c.args.distance (number + 1))
           (λ i meets. more_tables tables by_table c.requires.each c.args.distance number i meets)

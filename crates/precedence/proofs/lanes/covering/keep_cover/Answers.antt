@@ -6,8 +6,8 @@ use Rattle.precedence.specs.inner.lanes.Windows.{IsCover}
 use Rattle.precedence.proofs.lanes.covering.keep_cover.Goals.{then-len-ge-COVERS, else-len-ge-COVERS}
 use Rattle.precedence.proofs.lanes.covering.keep_cover.Goals as goal
 
-pub returns : goal.returns
-returns c = λ lanes by_table all one.
+pub returns-clause-all : goal.returns-clause-all
+returns-clause-all c = λ lanes by_table all one.
     let fewer : All (IsCover lanes by_table) c.if-len-ge-COVERS.covers.items = elim c.if-len-ge-COVERS.branch [
       | then-len-ge-COVERS w ↦ subst (λ cs. All (IsCover lanes by_table) cs) (sym w.remove.ensures.items ∙ (λ i. (sym w.covers-is i).items))
           (All-drop (IsCover lanes by_table) 1 c.args.covers.now.items all)

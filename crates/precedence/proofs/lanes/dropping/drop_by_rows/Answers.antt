@@ -4,8 +4,8 @@ use Rattle.precedence.specs.inner.lanes.Windows.{Drops}
 use Rattle.precedence.specs.inner.Rows.{pasts, LieApart}
 use Rattle.precedence.proofs.bits.Dropping.{drops_more, drops_none, drops_so, drops_some}
 use Rattle.precedence.proofs.bits.RowsMet.{MeetsRow, no_row, more_rows, earlier_rows, last_row, row_met, met_row, none_met, row_some, meets_of_met, met_of_meets}
-use Rattle.precedence.proofs.runs.RowOfCode.{long, row_is}
-use Rattle.precedence.proofs.runs.Starts.{start_within}
+use Rattle.precedence.proofs.ranges.RowOfCode.{long, row_is}
+use Rattle.precedence.proofs.ranges.Starts.{start_within}
 use Rattle.precedence.proofs.lanes.dropping.drop_by_rows.Goals.{then-first-past, else-first-past}
 use Rattle.precedence.proofs.lanes.dropping.drop_by_rows.Goals as goal
 

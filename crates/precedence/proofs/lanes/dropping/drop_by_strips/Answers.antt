@@ -9,8 +9,8 @@ use Rattle.precedence.specs.inner.Rows.{pasts, start_of}
 use Rattle.precedence.proofs.bits.Dropping.{drops_more, drops_so}
 use Rattle.precedence.proofs.bits.RowsMet.{past_rises}
 use Rattle.precedence.proofs.bits.StripsMet.{MeetsBefore, as_many, start_at, starts_later, before_later, before_earlier, before_of_in, in_of_before, here, last_of_before, none_passed, none_there}
-use Rattle.precedence.proofs.runs.RowOfCode.{row_is}
-use Rattle.precedence.proofs.runs.Starts.{start_within}
+use Rattle.precedence.proofs.ranges.RowOfCode.{row_is}
+use Rattle.precedence.proofs.ranges.Starts.{start_within}
 use Rattle.precedence.proofs.lanes.dropping.drop_by_strips.Goals.{else-row-rows-via-then-row-rows+else-rows-row, else-row-rows-via-else-row-rows}
 use Rattle.precedence.proofs.lanes.dropping.drop_by_strips.Goals as goal
 

@@ -1,6 +1,6 @@
 use Rattle.std.proofs.Common.{inr, arith}
 use Rattle.precedence.proofs.bits.StripsMet.{start_at}
-use Rattle.precedence.proofs.runs.Starts.{start_before_in}
+use Rattle.precedence.proofs.ranges.Starts.{start_before_in}
 use Rattle.precedence.proofs.lanes.dropping.next_strip.Goals as goal
 
 pub returns-clause-passed : goal.returns-clause-passed

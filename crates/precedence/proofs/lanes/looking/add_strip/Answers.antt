@@ -8,8 +8,8 @@ use Rattle.std.proofs.lemmas.Result.{on_ok_weaker}
 use Rattle.precedence.specs.declared.lanes.strip.Strip.{Strip}
 use Rattle.precedence.specs.declared.lanes.strips.Strips.{Strips}
 use Rattle.precedence.specs.inner.Between.{codes_in}
-use Rattle.precedence.proofs.bits.Looking.{grown_all, grown_more, grown_none, grown_others, grown_push, has_all, has_none, has_run, table_read}
-use Rattle.precedence.proofs.runs.Starts.{from_start, start_before_in}
+use Rattle.precedence.proofs.bits.Looking.{grown_all, grown_more, grown_none, grown_others, grown_push, has_all, has_none, has_range, table_read}
+use Rattle.precedence.proofs.ranges.Starts.{from_start, start_before_in}
 use Rattle.precedence.proofs.lanes.looking.add_strip.Goals as goal
 use Rattle.precedence.proofs.lanes.looking.add_strip.Goals.{then-loop-id-test+else-codes-id, else-loop-id-test}
 
@@ -30,8 +30,8 @@ loop-id-init c =
       };
     }
 
-pub run_from-bits-requires-clause-low : goal.run_from-bits-requires-clause-low
-run_from-bits-requires-clause-low c =
+pub range_from-bits-requires-clause-low : goal.range_from-bits-requires-clause-low
+range_from-bits-requires-clause-low c =
     let b = c.args.cones.now in
     let from = c.args.base + c.args.strip.start in
     let later = c.loop-id.invariant.later in
@@ -46,10 +46,10 @@ loop-id-preserved c =
     let from = c.args.base + strip.start in
     let had = c.loop-id.invariant in
     let id = c.loop-id.id in
-    let run = c.run_from-bits.ensures in
-    let past = c.run_from-bits.result.1 in
-    let bits = c.run_from-bits.result.0 in
-    let lt : id < length (codes_in b) = omega (arith, run.later, run.within) in
+    let range = c.range_from-bits.ensures in
+    let past = c.range_from-bits.result.1 in
+    let bits = c.range_from-bits.result.0 in
+    let lt : id < length (codes_in b) = omega (arith, range.later, range.within) in
     let number = c.index-number.result.now in
     let table = table_read b id number lt c.index-number.ensures in
     let first = c.args.sight.now.by_table.items in
@@ -62,9 +62,9 @@ loop-id-preserved c =
     record { left = c.joined-word.ensures.left; right = c.joined-word.ensures.right; either = c.joined-word.ensures.either } in
     let few = strip.few in
     record {
-      later = let later = had.later in omega (arith, later, run.later);
+      later = let later = had.later in omega (arith, later, range.later);
       same = had.same;
-      blocks = has_run b any_block from (strip.len + 63) id past 128 bits run c.loop-id.word c.joined-word.result (omega (arith, few))
+      blocks = has_range b any_block from (strip.len + 63) id past 128 bits range c.loop-id.word c.joined-word.result (omega (arith, few))
           (λ i le less. refl) joins had.blocks;
       by_table = record {
         tables = length-set old number new ∙ had.by_table.tables;
@@ -74,13 +74,13 @@ loop-id-preserved c =
             let read : c.index_mut.result.now ≡ get_or old n s = rw same (get_or_read old number c.index_mut.result.now within c.index_mut.ensures.value s) in
             let before = subst (λ (t : Strips). IsGrown (scene b) (of_table (scene b) n) from id strip (get_or first n s).strips.items t.strips.items) (sym read) (had.by_table.each n s in_n) in
             subst (λ (t : Strips). IsGrown (scene b) (of_table (scene b) n) from past strip (get_or first n s).strips.items t.strips.items) (sym written)
-            (grown_more b (of_table (scene b) n) from strip (get_or first n s).strips.items id past bits c.index_mut.result.now.strips.items new.strips.items run
-            (λ i le less. run.table i le less ∙ table ∙ sym same) (c.requires.tables_end n s in_n) c.in_ok-add_bits.ensures before))
+            (grown_more b (of_table (scene b) n) from strip (get_or first n s).strips.items id past bits c.index_mut.result.now.strips.items new.strips.items range
+            (λ i le less. range.table i le less ∙ table ∙ sym same) (c.requires.tables_end n s in_n) c.in_ok-add_bits.ensures before))
             (λ other.
             let kept : get_or (set old number new) n s ≡ get_or old n s = get_or-set_other old number n new s other in
             subst (λ (t : Strips). IsGrown (scene b) (of_table (scene b) n) from past strip (get_or first n s).strips.items t.strips.items) (sym kept)
-            (grown_others b (of_table (scene b) n) from strip (get_or first n s).strips.items id past bits (get_or old n s).strips.items run
-            (λ i le less is. other (sym is ∙ run.table i le less ∙ table)) (had.by_table.each n s in_n)))
+            (grown_others b (of_table (scene b) n) from strip (get_or first n s).strips.items id past bits (get_or old n s).strips.items range
+            (λ i le less is. other (sym is ∙ range.table i le less ∙ table)) (had.by_table.each n s in_n)))
             (cases_eq n number);
       };
     }

@@ -4,9 +4,9 @@ use Rattle.std.proofs.lemmas.List.Kept.{AllPairs-from_increasing}
 use Rattle.precedence.specs.inner.lanes.Windows.{of_table, scene}
 use Rattle.precedence.specs.inner.lanes.Looking.{HasBlocks, IsJoined}
 use Rattle.precedence.specs.inner.Between.{codes_in}
-use Rattle.precedence.proofs.bits.Looking.{has_all, has_none, has_run, joined_below, no_bits, table_read}
+use Rattle.precedence.proofs.bits.Looking.{has_all, has_none, has_range, joined_below, no_bits, table_read}
 use Rattle.precedence.proofs.bits.Words.{below_by_bits}
-use Rattle.precedence.proofs.runs.Starts.{no_less}
+use Rattle.precedence.proofs.ranges.Starts.{no_less}
 use Rattle.precedence.proofs.lanes.looking.lanes_of.Goals as goal
 
 pub loop-id-init : goal.loop-id-init
@@ -21,8 +21,8 @@ loop-id-init c =
           (λ i lt. rw c.as_slice-codes.ensures.value (AllPairs-from_increasing (codes_in b) b.places.now.rising i id 0 lt c.requires));
     }
 
-pub run_from-bits-requires-clause-low : goal.run_from-bits-requires-clause-low
-run_from-bits-requires-clause-low c =
+pub range_from-bits-requires-clause-low : goal.range_from-bits-requires-clause-low
+range_from-bits-requires-clause-low c =
     let b = c.args.cones.now in
     let len = c.as_slice-codes.ensures.len in
     rw c.as_slice-codes.ensures.value (no_less (codes_in b) c.args.id c.loop-id.id b.places.now.rising c.loop-id.invariant.later (let lt = c.loop-id-test.true in omega (arith, lt, ap length c.as_slice-codes.ensures.value)))
@@ -32,18 +32,18 @@ loop-id-preserved-then-index-number c =
     let b = c.args.cones.now in
     let had = c.loop-id.invariant in
     let id = c.loop-id.id in
-    let run = c.run_from-bits.ensures in
-    let past = c.run_from-bits.result.1 in
-    let lt : id < length (codes_in b) = omega (arith, run.later, run.within) in
+    let range = c.range_from-bits.ensures in
+    let past = c.range_from-bits.result.1 in
+    let lt : id < length (codes_in b) = omega (arith, range.later, range.within) in
     let table = table_read b id c.index.result.now lt c.index.ensures ∙ c.if-index-number.true in
-    let joins : IsJoined c.loop-id.lanes c.run_from-bits.result.0 c.joined-lanes.result =
+    let joins : IsJoined c.loop-id.lanes c.range_from-bits.result.0 c.joined-lanes.result =
     record { left = c.joined-lanes.ensures.left; right = c.joined-lanes.ensures.right; either = c.joined-lanes.ensures.either } in
     record {
-      later = omega (arith, had.later, run.later);
+      later = omega (arith, had.later, range.later);
       fits = omega arith;
-      few = λ p bit. joined_below c.loop-id.lanes c.run_from-bits.result.0 c.joined-lanes.result 64 p joins had.few run.below bit;
-      blocks = has_run b (of_table (scene b) c.args.number) (get_or c.as_slice-codes.result.now c.args.id 0) 64 id past 64 c.run_from-bits.result.0 run
-          c.loop-id.lanes c.joined-lanes.result (omega arith) (λ i le less. run.table i le less ∙ table)
+      few = λ p bit. joined_below c.loop-id.lanes c.range_from-bits.result.0 c.joined-lanes.result 64 p joins had.few range.below bit;
+      blocks = has_range b (of_table (scene b) c.args.number) (get_or c.as_slice-codes.result.now c.args.id 0) 64 id past 64 c.range_from-bits.result.0 range
+          c.loop-id.lanes c.joined-lanes.result (omega arith) (λ i le less. range.table i le less ∙ table)
           joins had.blocks;
     }
 

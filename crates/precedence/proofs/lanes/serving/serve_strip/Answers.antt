@@ -33,7 +33,7 @@ loop-distance-preserved-then-until-distance c =
       found = found_more c.args.tables.now c.args.sight.now c.args.lanes (min d past) until c.loop-distance.found.items inv.found
           (omega (arith, c.if-until-distance.true))
           (λ j i e t lt lane sees up low. c.all_covered_until-until.ensures c.args.lanes i e c.args.sight.now.by_table.items c.requires.each
-          (subst (λ (cs : List Cover). All (IsCover c.args.lanes c.args.sight.now.by_table.items) cs) (sym c.as_slice.ensures.value) inv.covers)
+          (subst (λ (cs : List Cover). All (IsCover c.args.lanes c.args.sight.now.by_table.items) cs) (sym c.as_slice.ensures.value) inv.covers.all)
           lane (omega (arith, c.loop-distance-test.true)) (omega arith));
     }
 

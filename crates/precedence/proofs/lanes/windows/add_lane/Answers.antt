@@ -2,7 +2,7 @@ use Rattle.std.proofs.Common.{◌≡◌, ℕ, ◌+◌, ◌-◌, ◌<◌, false, 
 use Rattle.precedence.specs.inner.lanes.Bits.{has_bit}
 use Rattle.precedence.specs.inner.lanes.Windows.{scene}
 use Rattle.precedence.specs.declared.lanes.strips.Found.{Found}
-use Rattle.precedence.proofs.runs.Starts.{start_within}
+use Rattle.precedence.proofs.ranges.Starts.{start_within}
 use Rattle.precedence.proofs.bits.Windows.{lane_of, listed_push, listed_skip, place_seen, retained, AreListed, IsOf}
 use Rattle.precedence.proofs.lanes.windows.add_lane.Goals.{then-has_bit+in_ok-push, else-has_bit}
 use Rattle.precedence.proofs.lanes.windows.add_lane.Goals as goal

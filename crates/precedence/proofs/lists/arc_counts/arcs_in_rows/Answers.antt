@@ -2,17 +2,17 @@ use Rattle.std.proofs.Common.{◌+◌, ℕ, List, length, drop, get_or, ap, ◌�
 use Rattle.std.proofs.lemmas.List.{drop_all}
 use Rattle.std.proofs.lemmas.List.Sums.{sum_by-le}
 use Rattle.plan_parts.specs.declared.ranges.TheConstants.{MAX_BLOCKS}
-use Rattle.precedence.specs.Cone.{places_where}
+use Rattle.precedence.specs.Cone.{positions_where}
 use Rattle.precedence.specs.inner.Arcs.{count_in}
 use Rattle.precedence.specs.inner.Rows.{is_in_rows}
 use Rattle.precedence.specs.declared.cones.cone_rows.Row.{Row}
 use Rattle.precedence.proofs.Arcs.{row_more, sum_both, sum_none}
-use Rattle.precedence.proofs.PlacesWhere.{length-places_where}
-use Rattle.precedence.proofs.runs.RunsOfRows.{no_rows}
+use Rattle.precedence.proofs.PositionsWhere.{length-positions_where}
+use Rattle.precedence.proofs.ranges.RangesOfRows.{no_rows}
 use Rattle.precedence.proofs.lists.arc_counts.arcs_in_rows.Goals as goal
 
-abbrev lying : List ℕ → List Row → ℕ → ℕ
-lying codes rows from = length (places_where (is_in_rows from rows) 0 codes)
+abbrev ids_in_rows : List ℕ → List Row → ℕ → ℕ
+ids_in_rows codes rows from = length (positions_where (is_in_rows from rows) 0 codes)
 
 pub overflow_add-arcs : goal.overflow_add-arcs
 overflow_add-arcs c =
@@ -20,10 +20,10 @@ overflow_add-arcs c =
     let rows = c.args.rows.now in
     let i = c.loop-row.row-index in
     let row = c.row-item.result in
-    let one = sum_both (lying codes (drop i rows)) (count_in codes row) (lying codes (drop (i + 1) rows)) c.args.own.now
+    let one = sum_both (ids_in_rows codes (drop i rows)) (count_in codes row) (ids_in_rows codes (drop (i + 1) rows)) c.args.own.now
     (row_more codes rows c.requires.in_order.0 i row c.args.places.now.rising c.requires.in_order.1 c.loop-row-test.true c.row-item.is) in
-    let few = sum_by-le (lying codes rows) MAX_BLOCKS c.args.own.now
-    (λ k d lt. omega (arith, length-places_where (is_in_rows (get_or c.args.own.now k d) rows) 0 codes, c.args.places.now.few)) in
+    let few = sum_by-le (ids_in_rows codes rows) MAX_BLOCKS c.args.own.now
+    (λ k d lt. omega (arith, length-positions_where (is_in_rows (get_or c.args.own.now k d) rows) 0 codes, c.args.places.now.few)) in
     omega (arith, one, few, c.loop-row.invariant, c.arcs_in_row-arcs.ensures, c.requires.few, c.args.places.now.few)
 
 pub loop-row-preserved : goal.loop-row-preserved
@@ -32,7 +32,7 @@ loop-row-preserved c =
     let rows = c.args.rows.now in
     let i = c.loop-row.row-index in
     let row = c.row-item.result in
-    let one = sum_both (lying codes (drop i rows)) (count_in codes row) (lying codes (drop (i + 1) rows)) c.args.own.now
+    let one = sum_both (ids_in_rows codes (drop i rows)) (count_in codes row) (ids_in_rows codes (drop (i + 1) rows)) c.args.own.now
     (row_more codes rows c.requires.in_order.0 i row c.args.places.now.rising c.requires.in_order.1 c.loop-row-test.true c.row-item.is) in
     omega (arith, one, c.loop-row.invariant, c.arcs_in_row-arcs.ensures)
 
@@ -41,6 +41,6 @@ returns c =
     let codes = c.args.places.now.codes.items in
     let rows = c.args.rows.now in
     let i = c.loop-row.row-index in
-    let none = sum_none (lying codes (drop i rows)) c.args.own.now (λ from.
-    ap (λ rs. lying codes rs from) (drop_all i rows (omega (arith, c.loop-row-test.false))) ∙ ap length (no_rows from 0 codes)) in
+    let none = sum_none (ids_in_rows codes (drop i rows)) c.args.own.now (λ from.
+    ap (λ rs. ids_in_rows codes rs from) (drop_all i rows (omega (arith, c.loop-row-test.false))) ∙ ap length (no_rows from 0 codes)) in
     omega (arith, none, c.loop-row.invariant)

@@ -1,7 +1,7 @@
 use Rattle.std.proofs.Common.{◌+◌, arith}
 use Rattle.std.proofs.lemmas.List.{get_or_default}
 use Rattle.std.proofs.lemmas.List.Kept.{AllPairs-from_increasing}
-use Rattle.precedence.proofs.runs.Starts.{start_before_in, start_within}
+use Rattle.precedence.proofs.ranges.Starts.{start_before_in, start_within}
 use Rattle.precedence.proofs.lists.arc_counts.next_own.Goals as goal
 
 pub returns-clause-within : goal.returns-clause-within

@@ -7,7 +7,7 @@ use Rattle.precedence.proofs.numbering.number_by_place.sorted_places.Goals as go
 
 pub returns-then-rise-clause-sorted : goal.returns-then-rise-clause-sorted
 returns-then-rise-clause-sorted g c = record {
-  moved = rw c.in_ok-places.ensures at c.sort_by_key.ensures.permutation;
+  permuted = rw c.in_ok-places.ensures at c.sort_by_key.ensures.permutation;
   rising = rw (← c.as_slice.ensures.value) (c.if-rise.ensures refl);
 }
 
@@ -15,10 +15,10 @@ pub returns-clause-sorted : goal.returns-clause-sorted
 returns-clause-sorted g c =
     let listed = g.L.ListedBlocks.listed c.args.listed.now in
     let places = c.sort_by_key.new.self.items in
-    let moved : IsPermutation (placed 0 listed) places = rw c.in_ok-places.ensures at c.sort_by_key.ensures.permutation in
+    let permuted : IsPermutation (placed 0 listed) places = rw c.in_ok-places.ensures at c.sort_by_key.ensures.permutation in
     record {
-      moved = moved;
-      rising = keys_rise listed places moved
+      permuted = permuted;
+      rising = keys_rise listed places permuted
           (IsNonDecreasingBy-from_sort_by_key (λ (e : ℕ × ℕ). e.0) _ c.in_ok-sort_by_key.ensures.sorted (λ a r q k. search rules))
           c.in_ok-require_distinct.ensures.differ;
     }

@@ -2,7 +2,7 @@ use Rattle.std.proofs.Common.{◌≡◌, ◌*◌, ◌+◌, ◌∷◌, [], length
 use Rattle.std.proofs.lemmas.Bool.{cases_lt}
 use Rattle.std.proofs.lemmas.List.{get_or_append_left, get_or_push, length-map, length_push}
 use Rattle.precedence.specs.Codes.{place_code}
-use Rattle.precedence.proofs.runs.Beside.{in_columns}
+use Rattle.precedence.proofs.ranges.Outside.{in_columns}
 use Rattle.precedence.proofs.places.columns.columns_of.Goals as goal
 
 pub loop-k-preserved : goal.loop-k-preserved

@@ -3,11 +3,7 @@ use Rattle.mine_instance.specs.Largest.{largest}
 use Rattle.pit_units.specs.DecimalRange.{IsInDecimalRange}
 use Rattle.minelib_writing.specs.Written.{largest_line}
 use Rattle.minelib_writing.proofs.BlockLines.{block_kept, block_line, block_within}
-use Rattle.minelib_writing.proofs.LineFacts.{length-line_parts}
 use Rattle.minelib_writing.proofs.lines.values.LargestLinesParted.append.Goals as goal
-
-pub of_block-requires : goal.of_block-requires
-of_block-requires g c = rw length-line_parts at c.requires
 
 pub append_largest-requires : goal.append_largest-requires
 append_largest-requires g c =

@@ -2,11 +2,7 @@ use Rattle.std.proofs.Common.{All}
 use Rattle.pit_units.specs.DecimalRange.{IsInDecimalRange}
 use Rattle.minelib_writing.specs.Written.{value_line}
 use Rattle.minelib_writing.proofs.BlockLines.{block_kept, block_line}
-use Rattle.minelib_writing.proofs.LineFacts.{length-line_parts}
 use Rattle.minelib_writing.proofs.lines.values.ValueLinesParted.append.Goals as goal
-
-pub of_block-requires : goal.of_block-requires
-of_block-requires g c = rw length-line_parts at c.requires
 
 pub returns-clause-appended : goal.returns-clause-appended
 returns-clause-appended g c =

@@ -1,5 +1,0 @@
-use Rattle.minelib_text.proofs.TextsBack.{written_cpit_again}
-use Rattle.minelib_text.proofs.laws.written_cpit_is_read.Goals as goal
-
-pub returns : goal.returns
-returns c = written_cpit_again

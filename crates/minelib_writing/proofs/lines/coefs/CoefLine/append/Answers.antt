@@ -1,5 +1,0 @@
-use Rattle.std.proofs.Common.{rules, append_assoc}
-use Rattle.minelib_writing.proofs.lines.coefs.CoefLine.append.Goals as goal
-
-pub returns-clause-text : goal.returns-clause-text
-returns-clause-text c = search (rules, append_assoc)

@@ -1,7 +1,0 @@
-use Rattle.std.proofs.Common.{sym, ◌∙◌}
-use Rattle.minelib_writing.specs.Written.{value_line}
-use Rattle.minelib_writing.proofs.LineFacts.{length-line_parts}
-use Rattle.minelib_writing.proofs.lines.values.ValueLinesParted.len.Goals as goal
-
-pub returns : goal.returns
-returns g c = c.len.ensures ∙ sym (length-line_parts value_line (g.V.ValueList.list c.args.self.now.values.now))

@@ -1,9 +1,0 @@
-use Rattle.std.proofs.Common.{◌≡◌, ◌++◌, length}
-use Rattle.precedence.specs.IdRuns.{ids_of}
-use Rattle.precedence.proofs.lists.ids_as_runs.add_runs_of_ids.Given as goal
-
-abbrev pub invariant-loop-rest : goal.invariant-loop-rest
-invariant-loop-rest l = ids_of l.runs.items ++ l.rest ≡ ids_of l.initial.runs.items ++ l.ids
-
-abbrev pub decreases-loop-rest : goal.decreases-loop-rest
-decreases-loop-rest l = length l.rest
