@@ -116,9 +116,12 @@ def test_memory_is_that_of_all_processes(tmp_path, marked):
     assert remainder_of(marked) == []
 
 
-def test_what_a_program_prints_is_kept_in_part(tmp_path):
-    found = ran("import sys\nfor _ in range(300): sys.stdout.write('x' * 10_000)\nprint('end')",
-                tmp_path)
+@pytest.mark.parametrize("text", [
+    "import sys\nfor _ in range(300): sys.stdout.write('x' * 10_000)\nprint('end')",
+    "import os\nos.write(1, b'x' * 600_000 + b'end\\n')\nos._exit(0)"], ids=["slowly", "at once"])
+def test_what_a_program_prints_is_kept_in_part(tmp_path, text):
+    """Also what it printed just before it ended."""
+    found = ran(text, tmp_path)
     assert found.ended == "status 0" and found.printed.endswith("end\n")
     assert len(found.printed) <= limited.TAIL
 

@@ -33,6 +33,9 @@ _CODE = ("import json, sys; sys.path[:] = json.loads(sys.argv[1]); "
 _PR_SET_PDEATHSIG, _PR_SET_CHILD_SUBREAPER = 1, 36
 _F_SETPIPE_SZ = 1031
 
+# Bytes that a pipe of Linux is asked to hold.
+_PIPE = 1 << 20
+
 #: Seconds between two measurements of memory; seconds from TERM to KILL; bytes that are kept of the
 #: program's last output.
 PAUSE, GRACE, TAIL = 0.05, 1.0, 4096
@@ -143,7 +146,7 @@ def _widen(pipe: int) -> None:
     reader."""
     if sys.platform == "linux":
         try:
-            fcntl.fcntl(pipe, _F_SETPIPE_SZ, 1 << 20)
+            fcntl.fcntl(pipe, _F_SETPIPE_SZ, _PIPE)
         except OSError:
             pass
 
@@ -185,6 +188,7 @@ class _Watch:
         finally:
             self._end_all()
             child.returncode = self.status
+        self._read_rest(reader)
         used = resource.getrusage(resource.RUSAGE_CHILDREN)
         unit = 1e3 if sys.platform == "linux" else 1e6
         return Ran(ended or _text_of(self.status), round(seconds, 3),
@@ -214,8 +218,17 @@ class _Watch:
             if not chunk:
                 self.sources.discard(source)
             elif source not in (0, self.woken):
-                self.printed = (self.printed + chunk)[-TAIL:]
+                self._keep(chunk)
         self._reap()
+
+    def _keep(self, chunk: bytes) -> None:
+        self.printed = (self.printed + chunk)[-TAIL:]
+
+    def _read_rest(self, reader: int) -> None:
+        """Reads what a program that has ended left in the pipe: one read empties it, and does not
+        wait."""
+        if select.select([reader], [], [], 0)[0]:
+            self._keep(os.read(reader, _PIPE))
 
     def _reap(self) -> None:
         while True:
