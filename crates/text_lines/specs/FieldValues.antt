@@ -16,10 +16,13 @@ abbrev pub all_by : {A : Type 0} → (List ℕ → Result A TextKind) → List A
 all_by rule done [] = Ok done
 all_by rule done (field ∷ fields) = rule field >>= λ x. all_by rule (done ++ x ∷ []) fields
 
+-- the result is the stated one, as seen through `view`
+abbrev pub Shows : {A B F : Type 0} → (A → B) → Result A F → Result B F → Type 0
+Shows view result stated = stated ≡ (result >>= λ x. Ok (view x))
+
 -- the result for the start of a line: a value, and the bytes with the fields after it
 abbrev pub Takes : {A : Type 0} → Result (A × Bor (List ℕ)) TextKind → Result (A × List (List ℕ)) TextKind → Type 0
-Takes (Ok x) stated = stated ≡ Ok (x.0, fields_of x.1.now)
-Takes (Err kind) stated = stated ≡ Err kind
+Takes = Shows (λ x. (x.0, fields_of x.1.now))
 
 -- the error of a line by its number of fields, else the error met in its fields
 abbrev pub kind_by : Bool → TextKind → TextKind

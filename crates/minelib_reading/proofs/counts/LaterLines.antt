@@ -1,16 +1,15 @@
 -- Lines that are counted after an error state what the definitions state.
 use Rattle.std.specs.Prelude.{Bool, Err, List, Ok, Result, if◌then◌else◌, nat_lt, ℕ, ℤ, ◌==◌}
-use Rattle.std.proofs.Common.{false, length, refl, true, ◌+◌, ◌∙◌, ◌≡◌}
+use Rattle.std.proofs.Common.{false, length, refl, true, ◌+◌, ◌≡◌}
 use Rattle.std.proofs.lemmas.Bool.{eq-eqb, eqb-true}
 use Rattle.pit_units.specs.declared.or_memory.OrMemory.{OrMemory}
-use Rattle.pit_units.specs.declared.or_memory.OrMemory.TheVariants.{Fault, OutOfMemory}
 use Rattle.plan_parts.specs.declared.block.Block.{Block}
 use Rattle.plan_parts.specs.declared.limit.Limit.{Limit}
 use Rattle.mine_instance.specs.declared.coefs.coef.Coef.{Coef}
 use Rattle.text_lines.specs.FieldValues.{kind_by}
+use Rattle.text_lines.specs.Reading.{Leaves}
 use Rattle.text_lines.specs.declared.text_fault.TextKind.{TextKind}
 use Rattle.text_lines.specs.declared.text_fault.TextKind.TheVariants.{Fields}
-use Rattle.text_lines.specs.inner.Taken.{AdmitsCounted}
 use Rattle.minelib_lines.specs.declared.problem.Problem.{Problem}
 use Rattle.minelib_lines.specs.declared.problem.Problem.TheVariants.{Cpit, Pcpsp}
 use Rattle.minelib_reading.proofs.lines.FormFacts.{kind_after}
@@ -49,12 +48,9 @@ unfolding values_stated
 values_counted n destinations before fields count = rw (eq-eqb (length fields) (destinations + 1) count) refl
 
 pub values_admitted : {A : Type 0} (n destinations before : ℕ) (fields : List (List ℕ)) (row : List ℤ) (r : Result A (OrMemory TextKind))
-    → AdmitsCounted (length fields ≡ destinations + 1) row r (item_in (values_form n before) fields)
-    → AdmitsCounted (length fields ≡ destinations + 1) row r (values_stated n destinations before fields)
-values_admitted n destinations before fields row (Ok x) h = (h.0, values_counted n destinations before fields h.0 ∙ h.1)
-values_admitted n destinations before fields row (Err (Fault found)) h =
-    λ count. values_counted n destinations before fields count ∙ h count
-values_admitted n destinations before fields row (Err OutOfMemory) h = tt
+    → (length fields ≡ destinations + 1 → Leaves row r (item_in (values_form n before) fields))
+    → length fields ≡ destinations + 1 → Leaves row r (values_stated n destinations before fields)
+values_admitted n destinations before fields row r h count = rw (values_counted n destinations before fields count) (h count)
 
 pub values_kind : (n destinations before : ℕ) (fields : List (List ℕ)) (found : TextKind)
     → (length fields ≡ destinations + 1 → values_stated n destinations before fields ≡ Err found)

@@ -1,6 +1,5 @@
 -- How the code reads the parts of a model file's lines.
-use Rattle.std.specs.Prelude.{◌≡◌, ℕ, ◌/◌, ◌^◌, ◌==◌, ◌≤◌, Bool, true, List, [], ◌∷◌, pos, unsigned_abs, Result, Ok, Err, if◌then◌else◌}
-use Rattle.std.specs.Borrow.{Bor}
+use Rattle.std.specs.Prelude.{ℕ, ◌/◌, ◌^◌, ◌==◌, ◌≤◌, Bool, true, List, [], ◌∷◌, pos, unsigned_abs, Result, Ok, Err, if◌then◌else◌}
 use Rattle.std.specs.Str.{bytes_eq}
 use Rattle.pit_units.specs.Steps.{◌>>=◌}
 use Rattle.plan_parts.specs.Name.{is_name}
@@ -40,11 +39,6 @@ abbrev pub number_with : ℕ → HeaderKey → ℕ → Result ℕ TextKind
 number_with n key.Blocks m = if m / 10 ^ 6 == n then Ok 0 else Err Count
 number_with n key.Rate m = Ok m
 number_with n k m = Ok (m / 10 ^ 6)
-
--- the value that fields state, or their fault
-abbrev pub StatesValue : Result (Bor (List ℕ)) TextKind → Result (List ℕ) TextKind → Type 0
-StatesValue (Ok value) stated = stated ≡ Ok value.now
-StatesValue (Err kind) stated = stated ≡ Err kind
 
 -- the value is a NAME, if the key requires one
 abbrev pub is_name_for : HeaderKey → List ℕ → Bool

@@ -10,7 +10,6 @@ ghost use Rattle.minelib_reading.specs.LineForms.{coef_form};
 ghost use Rattle.minelib_reading.specs.ModelText.{coef_stated, coef_width, values_stated};
 ghost use Rattle.text_lines.specs.Reading.{Leaves};
 ghost use Rattle.text_lines.specs.TextLines.{fields_of};
-ghost use Rattle.text_lines.specs.inner.Taken.{AdmitsCounted};
 ghost use Rattle.minelib_reading.specs.inner.LinesTaken.{destination_in};
 ghost use Rattle.plan_parts.specs.declared.ranges.TheConstants.{MAX_BLOCKS};
 
@@ -58,8 +57,9 @@ fn uncounted_values(
     line: &[u8],
     row: &mut Vec<Dec>,
 ) -> Result<(), OrMemory<TextKind>>
-    ensures value { AdmitsCounted (length (fields_of line.now) ≡ destinations + 1) row.new.items
-        result (values_stated blocks destinations before (fields_of line.now)) }
+    ensures counted { OnOk result (length (fields_of line.now) ≡ destinations + 1) }
+    ensures value { length (fields_of line.now) ≡ destinations + 1 → Leaves row.new.items result
+        (values_stated blocks destinations before (fields_of line.now)) }
     ensures width { OnOk result (length row.new.items ≡ destinations) }
     ensures room { OnOk result (before < blocks) }
 {
@@ -73,7 +73,8 @@ fn uncounted_values(
 
 // Reads all decimals of a line with `count` fields.
 fn read_decimals(line: &[u8], count: usize, row: &mut Vec<Dec>) -> Result<(), OrMemory<TextKind>>
-    ensures value { AdmitsCounted (length (fields_of line.now) ≡ count) row.new.items result
+    ensures counted { OnOk result (length (fields_of line.now) ≡ count) }
+    ensures value { length (fields_of line.now) ≡ count → Leaves row.new.items result
         (all_by decimal_in [] (fields_of line.now)) }
     ensures width { OnOk result (length row.new.items ≡ count) }
 {

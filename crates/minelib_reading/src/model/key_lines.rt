@@ -6,7 +6,8 @@ ghost use Rattle.std.specs.Str.{bytes_eq};
 ghost use Rattle.minelib_reading.specs.ModelKeys.{is_colon, key_in, key_of, section_in};
 ghost use Rattle.minelib_reading.specs.ModelDraft.{is_heading, is_limits, is_next};
 ghost use Rattle.minelib_lines.specs.HeaderKeys.{key_word, keys_of};
-ghost use Rattle.minelib_reading.specs.inner.ModelParts.{StatesValue, only_value};
+ghost use Rattle.minelib_reading.specs.inner.ModelParts.{only_value};
+ghost use Rattle.text_lines.specs.FieldValues.{Shows};
 ghost use Rattle.text_lines.specs.TextLines.{fields_of};
 
 use crate::model::key::{ModelKey, Section};
@@ -49,7 +50,7 @@ pub fn is_exactly(bytes: &[u8], word: &[u8]) -> bool
 ///
 /// `Fields`: there is no field, or more than one.
 pub fn only_value(line: &[u8]) -> Result<&[u8], TextKind>
-    ensures { StatesValue result (only_value (fields_of line.now)) }
+    ensures { Shows (λ value. value.now) result (only_value (fields_of line.now)) }
 {
     let Some((value, following)) = next_field(line) else {
         return Err(TextKind::Fields);
