@@ -5,7 +5,7 @@ use Rattle.std.specs.List.{AllZip, list_any}
 use Rattle.std.proofs.lemmas.Bool.{cases_Bool, or_parts}
 use Rattle.std.proofs.lemmas.List.Elements.{All-nil, All-cons, All-head, All-rest, All-tail}
 use Rattle.devices.specs.feeds.FeedState.{FeedState}
-use Rattle.lane.specs.Ends.{Lane, PutEndView, TakeEndView, ArePutsFrom, AreTakesFrom, first_puts, first_takes}
+use Rattle.lane.specs.Ends.{Lane, PutEndView, TakeEndView, ArePutsFrom, AreTakesFrom, ends_from, first_puts, first_takes}
 use Rattle.lane.specs.MessageKinds.{is_done}
 use Rattle.plan_parts.specs.PlanFormulas.{formulas_of_plan}
 use Rattle.plan_parts.specs.Plan.{PlanParts}
@@ -50,18 +50,10 @@ pub unsent_rest : (k : ℕ) (e : PutEndView) (l rest : List PutEndView) → l �
     → (e.file ≡ k) × (e.sent ≡ []) × AreUnsentFrom (k + 1) rest
 unsent_rest k e l rest is h = subst (AreUnsentFrom k) is h
 
--- the ends that are made for a lane are of it
-pub puts_of_lane : (lane : Lane) (k n : ℕ) → All (λ (e : PutEndView). e.lane ≡ lane) (first_puts lane k n)
-puts_of_lane lane k zero = All-nil (λ (e : PutEndView). e.lane ≡ lane)
-puts_of_lane lane k (suc n) =
-    All-cons (λ (e : PutEndView). e.lane ≡ lane) (record { lane = lane; file = k; sent = [] }) (first_puts lane (k + 1) n) refl
-    (puts_of_lane lane (k + 1) n)
-
-pub takes_of_lane : (lane : Lane) (k n : ℕ) → All (λ (e : TakeEndView). e.lane ≡ lane) (first_takes lane k n)
-takes_of_lane lane k zero = All-nil (λ (e : TakeEndView). e.lane ≡ lane)
-takes_of_lane lane k (suc n) =
-    All-cons (λ (e : TakeEndView). e.lane ≡ lane) (record { lane = lane; taker = k; took = [] }) (first_takes lane (k + 1) n) refl
-    (takes_of_lane lane (k + 1) n)
+-- what holds of the end with each number holds of all ends that are made
+pub all_made : {E : Type 0} (P : E → Type 0) (make : ℕ → E) → ((k : ℕ) → P (make k)) → (k n : ℕ) → All P (ends_from make k n)
+all_made P make each k zero = All-nil P
+all_made P make each k (suc n) = All-cons P (make k) (ends_from make (k + 1) n) (each k) (all_made P make each (k + 1) n)
 
 -- what holds of all ends holds of the first of them, which threads were given
 pub of_given : {H E : Type 0} (P : E → Type 0) (end : H → E) (hs : List H) (rest all : List E) → map end hs ++ rest ≡ all → All P all

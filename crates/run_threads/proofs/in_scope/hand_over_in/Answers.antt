@@ -1,6 +1,7 @@
-use Rattle.std.proofs.Common.{rules, ◌≡◌, ◌∙◌, map, subst, sym}
+use Rattle.std.proofs.Common.{refl, rules, ◌≡◌, ◌∙◌, map, subst, sym}
+use Rattle.lane.specs.Ends.{PutEndView, TakeEndView}
 use Rattle.run_threads.specs.HandingOver.{IsHandedOver}
-use Rattle.run_threads.proofs.Joined.{first_unsent, puts_of_lane, takes_of_lane}
+use Rattle.run_threads.proofs.Joined.{all_made, first_unsent}
 use Rattle.run_threads.proofs.in_scope.hand_over_in.Goals as goal
 
 pub start_readers-readers-requires-clause-unsent :
@@ -16,19 +17,19 @@ start_readers-readers-requires-clause-unsent g c κs within =
 pub give_up-requires-clause-takes : goal.give_up-requires-clause-takes
 give_up-requires-clause-takes g c =
     let lane = c.args.ready.lane in
-    c.start_valuers-valuers.ensures.started.lanes lane.closer.lane (rw lane.takes_are (takes_of_lane lane.closer.lane 0 lane.closer.takers))
+    c.start_valuers-valuers.ensures.started.lanes lane.closer.lane (rw lane.takes_are (all_made (λ (e : TakeEndView). e.lane ≡ lane.closer.lane) _ (λ _. refl) 0 lane.closer.takers))
 
 pub give_up-requires-then-readers-clause-puts :
     goal.give_up-requires-then-readers-clause-puts
 give_up-requires-then-readers-clause-puts g c =
     let lane = c.args.ready.lane in
-    c.start_readers-readers.ensures.started.lanes lane.closer.lane (rw lane.puts_are (puts_of_lane lane.closer.lane 0 lane.closer.files))
+    c.start_readers-readers.ensures.started.lanes lane.closer.lane (rw lane.puts_are (all_made (λ (e : PutEndView). e.lane ≡ lane.closer.lane) _ (λ _. refl) 0 lane.closer.files))
 
 pub give_up-requires-then-readers-clause-takes :
     goal.give_up-requires-then-readers-clause-takes
 give_up-requires-then-readers-clause-takes g c =
     let lane = c.args.ready.lane in
-    c.start_valuers-valuers.ensures.started.lanes lane.closer.lane (rw lane.takes_are (takes_of_lane lane.closer.lane 0 lane.closer.takers))
+    c.start_valuers-valuers.ensures.started.lanes lane.closer.lane (rw lane.takes_are (all_made (λ (e : TakeEndView). e.lane ≡ lane.closer.lane) _ (λ _. refl) 0 lane.closer.takers))
 
 pub returns-clause-handed : goal.returns-clause-handed
 returns-clause-handed g c =

@@ -1,7 +1,7 @@
 use Rattle.std.proofs.Common.{arith, rules, ◌≡◌, ◌∙◌, All, [], append-nil, map, true, refl, sym, ap, subst}
 use Rattle.lane.specs.Ends.{Lane, PutEndView, TakeEndView, first_puts, first_takes}
 use Rattle.lane.specs.MessageKinds.{is_done}
-use Rattle.run_threads.proofs.Joined.{puts_of, read_of, takes_of, done_of, valued_of, full_of, of_given, puts_of_lane, takes_of_lane}
+use Rattle.run_threads.proofs.Joined.{puts_of, read_of, takes_of, done_of, valued_of, full_of, of_given, all_made}
 use Rattle.run_threads.proofs.in_scope.settling.settle.Goals as goal
 
 pub join_all-reads-requires-clause-lane : goal.join_all-reads-requires-clause-lane
@@ -9,7 +9,7 @@ join_all-reads-requires-clause-lane g c =
     let lane = c.args.running.closer.lane in
     let ends = map (λ h. h.promise.end.value) c.args.running.readers.items in
     of_given (λ (e : PutEndView). e.lane ≡ lane) (λ h. h.promise.end.value) c.args.running.readers.items [] (first_puts lane 0 c.args.running.closer.files)
-    (append-nil ends ∙ c.args.running.ends) (puts_of_lane lane 0 c.args.running.closer.files)
+    (append-nil ends ∙ c.args.running.ends) (all_made (λ (e : PutEndView). e.lane ≡ lane) _ (λ _. refl) 0 c.args.running.closer.files)
 
 pub join_all-values-requires-clause-lane : goal.join_all-values-requires-clause-lane
 join_all-values-requires-clause-lane g c =
@@ -19,7 +19,7 @@ join_all-values-requires-clause-lane g c =
     let ended : c.stop-stopped.result.1.lane ≡ lane = ap (λ e. e.lane) c.stop-stopped.ensures.ended in
     subst Same (sym ended)
     (of_given (λ (e : TakeEndView). e.lane ≡ lane) (λ h. h.promise.end.value) c.args.running.valuers.items [] (first_takes lane 0 c.args.running.closer.takers)
-    (append-nil ends ∙ c.args.running.takes) (takes_of_lane lane 0 c.args.running.closer.takers))
+    (append-nil ends ∙ c.args.running.takes) (all_made (λ (e : TakeEndView). e.lane ≡ lane) _ (λ _. refl) 0 c.args.running.closer.takers))
 
 pub stop-stopped-requires-clause-puts : goal.stop-stopped-requires-clause-puts
 stop-stopped-requires-clause-puts g c =
