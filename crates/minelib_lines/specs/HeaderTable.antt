@@ -1,15 +1,12 @@
--- The value of each header key of the model files, as text, with its line; and the field of the value.
-use Rattle.std.specs.Prelude.{ℕ, ◌+◌, ◌-◌, ◌*◌, ◌^◌, Bool, true, false, List, [], ◌∷◌, ◌++◌, map, unsigned_abs, codes, decimal}
+-- The value of each header key of the model files, as text, with its line.
+use Rattle.std.specs.Prelude.{ℕ, Bool, true, false, List, [], ◌∷◌, ◌++◌, map, codes, decimal}
 use Rattle.std.specs.List.{filter}
-use Rattle.plan_parts.specs.declared.ranges.TheConstants.{MAX_BLOCKS, MAX_DESTINATIONS, MAX_PERIODS, MAX_RATE, MAX_RESOURCES}
 use Rattle.pit_units.specs.Decimal.{shortest}
 use Rattle.minelib_lines.specs.HeaderKeys.{header_keys, key_word}
 use Rattle.minelib_lines.specs.Lines.{line_of}
 use Rattle.minelib_lines.specs.StatedHeader.{StatedHeader}
 use Rattle.minelib_lines.specs.declared.header_key.HeaderKey.{HeaderKey}
 use Rattle.minelib_lines.specs.declared.header_key.HeaderKey.TheVariants as key
-use Rattle.minelib_lines.specs.declared.header_key.KeyField.{KeyField}
-use Rattle.minelib_lines.specs.declared.header_key.KeyField.TheVariants as field
 
 -- the keys of a UPIT file
 abbrev pub of_upit : HeaderKey → Bool
@@ -39,20 +36,3 @@ key_line k text = line_of ((key_word k ++ codes ":") ∷ text ∷ [])
 
 abbrev pub key_lines : (HeaderKey → List ℕ) → List HeaderKey → List (List ℕ)
 key_lines text keys = map (λ k. key_line k (text k)) keys
-
--- the field of a value: an integer from `low` to `high`, or an integer below a limit
-abbrev pub between : ℕ → ℕ → KeyField
-between low high = field.Number 0 (low * 10 ^ 6) (high * 10 ^ 6)
-
-abbrev pub below : ℕ → KeyField
-below limit = field.Number 0 0 (limit * 10 ^ 6 - 1)
-
-abbrev pub key_field : HeaderKey → KeyField
-key_field key.Name = field.Name
-key_field key.Type = field.Type
-key_field key.Blocks = below (MAX_BLOCKS + 1)
-key_field key.Periods = between 1 MAX_PERIODS
-key_field key.Destinations = between 1 MAX_DESTINATIONS
-key_field key.Resources = below (MAX_RESOURCES + 1)
-key_field key.General = below 1
-key_field key.Rate = field.Number 6 0 (unsigned_abs MAX_RATE)

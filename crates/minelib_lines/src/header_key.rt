@@ -1,14 +1,10 @@
-//! The header keys of a model file, with a table row for each.
+//! The header keys of a model file.
 
-ghost use Rattle.std.specs.Prelude.{◌≡◌, ◌<◌, ◌≤◌, ◌*◌, ◌-◌, ◌^◌};
-ghost use Rattle.minelib_lines.specs.HeaderTable.{key_field, upit_keys};
+ghost use Rattle.std.specs.Prelude.{◌≡◌, ◌<◌};
+ghost use Rattle.minelib_lines.specs.HeaderTable.{upit_keys};
 ghost use Rattle.minelib_lines.specs.HeaderKeys.{key_word, keys_of, place};
-ghost use Rattle.minelib_lines.specs.declared.header_key.KeyField.TheVariants as KeyField;
 ghost use Rattle.minelib_lines.specs.declared.header_key.TheConstants.{KEYS};
 ghost use Rattle.minelib_lines.specs.declared.problem.Problem.TheVariants as Problem;
-
-use pit_units::MILLIONTHS;
-use plan_parts::ranges::{MAX_BLOCKS, MAX_DESTINATIONS, MAX_PERIODS, MAX_RATE, MAX_RESOURCES};
 
 /// The number of keys.
 pub const KEYS: usize = 8;
@@ -26,54 +22,20 @@ pub enum HeaderKey {
     Rate,
 }
 
-/// The field of a key's value.
-#[derive(Clone, Copy, Debug, PartialEq, Eq)]
-pub enum KeyField {
-    /// A NAME.
-    Name,
-    /// The name of the problem.
-    Type,
-    /// A number with at most `decimals` decimals, from `low` to `high` millionths.
-    Number { decimals: u8, low: u64, high: u64 },
-}
-
-/// The word and the field of a key.
-#[derive(Clone, Copy, Debug)]
-pub struct KeyRow {
-    /// The word of the key, which precedes the colon in its line.
-    pub word: &'static [u8],
-    /// The field of its value.
-    pub field: KeyField,
-}
-
 impl HeaderKey {
-    /// Returns the word and the field of the key.
-    pub fn row(self) -> KeyRow
-        ensures word { result.word.now ≡ key_word self }
-        ensures field { result.field ≡ key_field self }
+    /// Returns the word of the key, which precedes the colon in its line.
+    pub fn word(self) -> &'static [u8]
+        ensures { result.now ≡ key_word self }
     {
         match self {
-            HeaderKey::Name => row(b"NAME", KeyField::Name),
-            HeaderKey::Type => row(b"TYPE", KeyField::Type),
-            HeaderKey::Blocks => row(b"NBLOCKS", below(MAX_BLOCKS as u64 + 1)),
-            HeaderKey::Periods => row(b"NPERIODS", between(1, u64::from(MAX_PERIODS))),
-            HeaderKey::Destinations => row(
-                b"NDESTINATIONS",
-                between(1, u64::from(MAX_DESTINATIONS)),
-            ),
-            HeaderKey::Resources => row(
-                b"NRESOURCE_SIDE_CONSTRAINTS",
-                below(u64::from(MAX_RESOURCES) + 1),
-            ),
-            HeaderKey::General => row(b"NGENERAL_SIDE_CONSTRAINTS", below(1)),
-            HeaderKey::Rate => row(
-                b"DISCOUNT_RATE",
-                KeyField::Number {
-                    decimals: 6,
-                    low: 0,
-                    high: MAX_RATE as u64,
-                },
-            ),
+            HeaderKey::Name => b"NAME",
+            HeaderKey::Type => b"TYPE",
+            HeaderKey::Blocks => b"NBLOCKS",
+            HeaderKey::Periods => b"NPERIODS",
+            HeaderKey::Destinations => b"NDESTINATIONS",
+            HeaderKey::Resources => b"NRESOURCE_SIDE_CONSTRAINTS",
+            HeaderKey::General => b"NGENERAL_SIDE_CONSTRAINTS",
+            HeaderKey::Rate => b"DISCOUNT_RATE",
         }
     }
 
@@ -121,35 +83,5 @@ impl HeaderKey {
         ensures below { result < KEYS }
     {
         self as usize
-    }
-}
-
-fn row(word: &'static [u8], field: KeyField) -> KeyRow
-    ensures { (result.word.now ≡ word.now) × (result.field ≡ field) }
-{
-    KeyRow { word, field }
-}
-
-// Returns the field of an integer below a limit.
-fn below(limit: u64) -> KeyField
-    requires { (0 < limit) × (limit ≤ 10 ^ 9) }
-    ensures { result ≡ KeyField.Number 0 0 (limit * 10 ^ 6 - 1) }
-{
-    KeyField::Number {
-        decimals: 0,
-        low: 0,
-        high: limit * MILLIONTHS as u64 - 1,
-    }
-}
-
-// Returns the field of an integer from `low` to `high`.
-fn between(low: u64, high: u64) -> KeyField
-    requires { (low ≤ 10 ^ 9) × (high ≤ 10 ^ 9) }
-    ensures { result ≡ KeyField.Number 0 (low * 10 ^ 6) (high * 10 ^ 6) }
-{
-    KeyField::Number {
-        decimals: 0,
-        low: low * MILLIONTHS as u64,
-        high: high * MILLIONTHS as u64,
     }
 }

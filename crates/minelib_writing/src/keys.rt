@@ -44,7 +44,7 @@ fn append_key(out: &mut Vec<u8>, values: &KeyValues, key: HeaderKey) -> Result<(
     ensures { OnOk result (out.new.items
         ≡ out.old.items ++ (key_line key (text_in values.now key) ++ 10 ∷ [])) }
 {
-    append_text(out, key.row().word, b':')?;
+    append_text(out, key.word(), b':')?;
     out.push(b' ')?;
     append_value(out, values, key)
 }

@@ -1,7 +1,7 @@
 //! The values of fields.
 
 ghost use Rattle.std.specs.Prelude.{◌≡◌, ◌<◌, ◌≤◌, IfOk};
-ghost use Rattle.text_lines.specs.StatedFields.{decimal_in, size_in, below_in};
+ghost use Rattle.text_lines.specs.StatedFields.{decimal_in, integer_in, size_in, below_in};
 
 use crate::text_fault::TextKind;
 use pit_units::{Dec, MILLIONTHS, parse_dec, parse_within};
@@ -18,6 +18,20 @@ pub fn below_in(field: &[u8], limit: u64) -> Result<u64, TextKind>
     ensures below { IfOk result (λ n. n < limit) }
 {
     Ok(parse_within(field, 0, 0, i128::from(limit) * MILLIONTHS - 1)?.whole())
+}
+
+/// Returns the integer in a field, if it is from `low` to `high`.
+///
+/// # Errors
+///
+/// Fails like `below_in`.
+pub fn integer_in(field: &[u8], low: u32, high: u32) -> Result<u64, TextKind>
+    ensures value { result ≡ integer_in low high field.now }
+    ensures in_range { IfOk result (λ n. (low ≤ n) × (n ≤ high)) }
+{
+    let low = i128::from(low) * MILLIONTHS;
+    let high = i128::from(high) * MILLIONTHS;
+    Ok(parse_within(field, 0, low, high)?.whole())
 }
 
 /// Returns the millionths of the number in a field, which must have at most `decimals` decimals (further zeros do not count) and be from

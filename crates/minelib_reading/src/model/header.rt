@@ -1,16 +1,17 @@
 //! The header of a model file that is being read.
 
-ghost use Rattle.std.specs.Prelude.{◌≡◌, ◌<◌, ◌≤◌, true, IfOk};
+ghost use Rattle.std.specs.Prelude.{◌≡◌, ◌<◌, true, IfOk};
 ghost use Rattle.minelib_reading.specs.ModelDraft.{blank_header};
 ghost use Rattle.minelib_reading.specs.ModelKeys.{number_stated};
-ghost use Rattle.minelib_reading.specs.inner.ModelParts.{IsFineField, is_name_for, millionths_in, number_limit, number_with, stated_in};
+ghost use Rattle.minelib_reading.specs.inner.ModelParts.{is_name_for, number_limit};
 
 use crate::model::key::Header;
 use crate::model::key_lines::is_exactly;
-use minelib_lines::header_key::{HeaderKey, KeyField};
+use minelib_lines::header_key::HeaderKey;
 use minelib_lines::problem::Problem;
-use pit_units::{MILLIONTHS, parse_within};
 use plan_parts::name::is_name;
+use plan_parts::ranges::{MAX_BLOCKS, MAX_DESTINATIONS, MAX_PERIODS, MAX_RATE, MAX_RESOURCES};
+use text_lines::field_values::{below_in, integer_in, size_in};
 use text_lines::text_fault::TextKind;
 
 /// Returns the header before its first key.
@@ -32,7 +33,7 @@ pub fn blank_header(problem: Problem) -> Header
 /// # Errors
 ///
 /// What is wrong with the value, or `Count` if NBLOCKS is another number.
-#[tactic(auto, using(crate::proofs::keys::KeyNumbers::number_taken, crate::proofs::keys::KeyNumbers::fine_field))]
+#[tactic(auto, unfolding(crate::specs::ModelKeys::number_stated, text_lines::specs::StatedFields::size_in))]
 pub fn number_of_key(
     problem: Problem,
     blocks: usize,
@@ -43,45 +44,21 @@ pub fn number_of_key(
     ensures name { IfOk result (λ _. is_name_for key value.now ≡ true) }
     ensures below { IfOk result (λ n. n < number_limit key) }
 {
-    let millionths = stated_in(problem, key.row().field, value)?;
-    number_with(blocks, key, millionths)
-}
-
-// Returns the number of a key whose value states these millionths.
-fn number_with(blocks: usize, key: HeaderKey, millionths: u64) -> Result<u64, TextKind>
-    ensures { result ≡ number_with blocks key millionths }
-{
-    let whole = millionths / MILLIONTHS as u64;
     match key {
-        HeaderKey::Blocks if whole == blocks as u64 => Ok(0),
-        HeaderKey::Blocks => Err(TextKind::Count),
-        HeaderKey::Rate => Ok(millionths),
-        _ => Ok(whole),
+        HeaderKey::Name if is_name(value) => Ok(0),
+        HeaderKey::Type if is_exactly(value, problem.type_text()) => Ok(0),
+        HeaderKey::Name | HeaderKey::Type => Err(TextKind::Name),
+        HeaderKey::Blocks => {
+            if below_in(value, MAX_BLOCKS as u64 + 1)? == blocks as u64 {
+                Ok(0)
+            } else {
+                Err(TextKind::Count)
+            }
+        }
+        HeaderKey::Periods => integer_in(value, 1, MAX_PERIODS),
+        HeaderKey::Destinations => integer_in(value, 1, u32::from(MAX_DESTINATIONS)),
+        HeaderKey::Resources => below_in(value, u64::from(MAX_RESOURCES) + 1),
+        HeaderKey::General => below_in(value, 1),
+        HeaderKey::Rate => size_in(value, 6, MAX_RATE as u64),
     }
-}
-
-// Returns the millionths that a field states, or 0 for a word.
-fn stated_in(problem: Problem, field: KeyField, text: &[u8]) -> Result<u64, TextKind>
-    requires { IsFineField field }
-    ensures { result ≡ stated_in problem field text.now }
-{
-    match field {
-        KeyField::Name if is_name(text) => Ok(0),
-        KeyField::Type if is_exactly(text, problem.type_text()) => Ok(0),
-        KeyField::Name | KeyField::Type => Err(TextKind::Name),
-        KeyField::Number {
-            decimals,
-            low,
-            high,
-        } => millionths_in(text, decimals, low, high),
-    }
-}
-
-// Returns the millionths that a field states with at most `decimals` decimals, from `low` to `high`.
-fn millionths_in(field: &[u8], decimals: u8, low: u64, high: u64) -> Result<u64, TextKind>
-    requires { decimals ≤ 6 }
-    ensures { result ≡ millionths_in decimals low high field.now }
-{
-    let stated = parse_within(field, decimals, i128::from(low), i128::from(high))?;
-    Ok(stated.millionths() as u64)
 }

@@ -88,7 +88,7 @@ fn header_key_in(problem: Problem, word: &[u8]) -> Option<HeaderKey>
         .keys()
         .iter()
         .copied()
-        .find(|key| is_exactly(word, key.row().word))
+        .find(|key| is_exactly(word, key.word()))
 }
 
 fn section_in(word: &[u8]) -> Option<ModelKey>
