@@ -237,7 +237,8 @@ impl<'s, E, T> Model for Starter<'s, E, T> {
 }
 
 impl<'s, E, T> Starter<'s, E, T> {
-    /// Creates a starter with the counts in `starts`.
+    /// Creates a starter, which starts threads in `scope` and joins them with the runtime `rt`. It continues the counts in `starts`,
+    /// whose budget limits its starts.
     pub fn new(scope: &'s Scope<'s, E>, rt: &'s T, starts: Counted) -> Starter<'s, E, T>
         requires { starts.spent ≤ starts.allowed }
         ensures { result ≡ starts }

@@ -155,6 +155,7 @@ impl<T: TakeItems> ModelDraft<T> {
             && is_limits(self.section)
     }
 
+    // Reads a line of the section of values: the values of the next block, or the line of a key.
     #[tactic(auto, unfolding(crate::specs::ModelText::line_stated), using(crate::proofs::lines::LineFacts::values_keyless))]
     fn admit_values(&mut self, line: &[u8]) -> Result<(), OrMemory<TextKind>>
         requires { self.old.section ≡ Section.Objective }
@@ -172,6 +173,7 @@ impl<T: TakeItems> ModelDraft<T> {
         }
     }
 
+    // Reads a line of the section of coefficients: the next coefficient, or the line of a key.
     #[tactic(auto, unfolding(crate::specs::ModelText::line_stated), using(crate::proofs::lines::LineFacts::coef_keyless))]
     fn admit_coef(&mut self, line: &[u8]) -> Result<(), OrMemory<TextKind>>
         requires { self.old.section ≡ Section.Coefs }
@@ -191,6 +193,7 @@ impl<T: TakeItems> ModelDraft<T> {
         }
     }
 
+    // Reads a line of the section of limits: the next limit, or the line of a key.
     #[tactic(auto, unfolding(crate::specs::ModelText::line_stated), using(crate::proofs::lines::LineFacts::limit_keyless))]
     fn admit_limit(&mut self, line: &[u8]) -> Result<(), OrMemory<TextKind>>
         requires { self.old.section ≡ Section.Limits }
@@ -224,6 +227,7 @@ impl<T: TakeItems> ModelDraft<T> {
         }
     }
 
+    // Reads the line of a key, from its key, if the key is known, and the bytes after its colon.
     fn admit_key(&mut self, key: Option<ModelKey>, values: &[u8]) -> Result<(), OrMemory<TextKind>>
         ensures { Leaves self.new result (keyed_stated self.old key (fields_of values.now)) }
     {
@@ -234,6 +238,7 @@ impl<T: TakeItems> ModelDraft<T> {
         }
     }
 
+    // Stores the value of a header key.
     #[tactic(auto, using(crate::proofs::models::LineCases::key_taken))]
     fn admit_header(&mut self, key: HeaderKey, values: &[u8]) -> Result<(), OrMemory<TextKind>>
         ensures { Leaves self.new result (key_stated self.old key (fields_of values.now)) }
@@ -251,6 +256,7 @@ impl<T: TakeItems> ModelDraft<T> {
         Ok(())
     }
 
+    // Begins a section, whose key has no value.
     #[tactic(auto, using(crate::proofs::models::LineCases::section_taken))]
     fn admit_section(&mut self, section: Section, values: &[u8]) -> Result<(), OrMemory<TextKind>>
         ensures { Leaves self.new result
