@@ -222,14 +222,6 @@ def of_runs(name: Tuple[bytes, ...], out: bytes, model: Model, paths: Dict[str, 
     return [*runs(whole, list(paths)), *invalid_zones(whole), *texts_shown(name, wrong)]
 
 
-def left_open(named: List[Tuple[str, Command]]) -> Iterator[Tuple[str, Command]]:
-    """Yields outcomes of the same command that docs/formats.md excludes, and that the contracts may allow."""
-    whole = named[0][1]
-    if whole.sinks:
-        other = whole.sinks[0]._replace(path=b"other")
-        yield f"{whole.sinks[0].path.decode()} at another path", whole._replace(sinks=(other, *whole.sinks[1:]))
-
-
 # Altered outcomes
 
 
@@ -270,7 +262,7 @@ def altered_effects(command: Command) -> Iterator[Tuple[str, Command]]:
 
 def altered_texts(command: Command) -> Iterator[Tuple[str, Command]]:
     """Yields outcomes in which what is printed, the status or a written file differs in one thing."""
-    # (clap's text may have any lines, and the path of a single file is among those that the contract leaves open)
+    # (clap's text may have any lines)
     is_shown = command.refused is None and not command.opened and not command.given
     for name, text in [("a line too many on standard output", command.text + b"x\n" * (not is_shown or command.text == TEXT)),
                        ("nothing on standard output", TEXT),
@@ -291,7 +283,7 @@ def altered_texts(command: Command) -> Iterator[Tuple[str, Command]]:
             ("not begun", sink._replace(begun=False)),
             ("begun", sink._replace(begun=True)), ("with a failed call", sink._replace(failures=sink.failures + 1)),
             ("with a byte more", sink._replace(text=sink.text + b"x")),
-            ("at another path", sink._replace(path=b"other" if len(command.sinks) > 1 else sink.path)),
+            ("at another path", sink._replace(path=b"other")),
         ]:
             if other != sink:
                 yield f"{sink.path!r} {name}", command._replace(sinks=(*command.sinks[:place], other, *command.sinks[place + 1 :]))

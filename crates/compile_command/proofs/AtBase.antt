@@ -1,11 +1,11 @@
 -- A compile into sinks for the files of BASE, none of which was begun.
-use Rattle.std.proofs.Common.{◌≡◌, ◌∙◌, ◌++◌, ℕ, Bool, List, Some, ap, subst}
+use Rattle.std.proofs.Common.{◌≡◌, ◌∙◌, ◌++◌, ℕ, List, Some, ap, subst}
 use Rattle.std.proofs.Math.Path.{fun_ext}
 use Rattle.devices.specs.feeds.FeedState.{FeedState}
 use Rattle.devices.specs.files.Opening.{Opening}
-use Rattle.devices.specs.sinks.FileSinkView.{FileSinkView, unbegun}
+use Rattle.devices.specs.sinks.FileSinkView.{FileSinkView, HasFile, file_sink_state, unbegun}
 use Rattle.minelib_lines.specs.declared.text_name.TextName.{TextName}
-use Rattle.compile_command.specs.BaseFiles.{AreThere, HasFile, IsNoCompileAt, ReportsRowsAt, base_path, base_paths, state_with_path, unbegun_at}
+use Rattle.compile_command.specs.BaseFiles.{AreThere, IsNoCompileAt, ReportsRowsAt, base_path, base_paths, unbegun_at}
 use Rattle.compile_command.specs.Compile.{IsNoCompile, ReportsRows}
 use Rattle.pit_compile.specs.Sinks.{sink_of, sink_states}
 use Rattle.pit_compile.specs.declared.sinks.Sinks.{Sinks}
@@ -17,31 +17,31 @@ use Rattle.command_io.specs.declared.refused.Refused.{Refused}
 -- each sink was begun, so its file exists
 pub are_there : (base : List ℕ) (inputs : Inputs) (before after : Sinks FileSinkView) {F : Type 0} (path : F → List ℕ)
     (opened_old opened_new : List Opening) (starts_old starts_new : StartsView) (text_old text_new : List ℕ)
-    → ((name : TextName) → (sink_of before name).path ≡ base_path base name) → ((name : TextName) → HasFile path (sink_of after name))
-    → ReportsRows inputs (run_state opened_old starts_old (sink_states state_with_path before))
-    (run_state opened_new starts_new (sink_states state_with_path after)) text_old text_new → AreThere path base
+    → ((name : TextName) → (sink_of before name).path ≡ base_path base name) → ((name : TextName) → HasFile path (sink_of after name).begun (sink_of after name).path)
+    → ReportsRows inputs (run_state opened_old starts_old (sink_states file_sink_state before))
+    (run_state opened_new starts_new (sink_states file_sink_state after)) text_old text_new → AreThere path base
 are_there base inputs before after path opened_old opened_new starts_old starts_new text_old text_new placed has reported = λ name.
     let text = reported.compiled.done.written name in
     let it = has name text.begun in (it.0, it.1 ∙ text.before ∙ placed name)
 
 module _ (base : List ℕ) (inputs : Inputs) (before after : Sinks FileSinkView) (old new : World)
     (fresh : (name : TextName) → sink_of before name ≡ unbegun old.reports (base_path base name)) (made : new.made ≡ old.made ++ base_paths base) where
-  first : sink_states state_with_path before ≡ unbegun_at old.reports base
-  first = fun_ext (λ name. ap state_with_path (fresh name))
+  first : sink_states file_sink_state before ≡ unbegun_at old.reports base
+  first = fun_ext (λ name. ap file_sink_state (fresh name))
 
-  pub reports_rows : ReportsRows inputs (run_state old.opened old.starts (sink_states state_with_path before))
-      (run_state new.opened new.starts (sink_states state_with_path after)) old.text new.text → ReportsRowsAt base inputs (Some after) old new
+  pub reports_rows : ReportsRows inputs (run_state old.opened old.starts (sink_states file_sink_state before))
+      (run_state new.opened new.starts (sink_states file_sink_state after)) old.text new.text → ReportsRowsAt base inputs (Some after) old new
   reports_rows h = (
     made,
     subst (λ sinks. ReportsRows inputs (run_state old.opened old.starts sinks)
-        (run_state new.opened new.starts (sink_states state_with_path after)) old.text new.text) first h,
+        (run_state new.opened new.starts (sink_states file_sink_state after)) old.text new.text) first h,
   )
 
   pub no_compile : {F : Type 0} (state : F → FeedState) (why : Refused)
-      → IsNoCompile inputs (run_state old.opened old.starts (sink_states state_with_path before))
-      (run_state new.opened new.starts (sink_states state_with_path after)) state why → IsNoCompileAt base inputs state (Some after) old new why
+      → IsNoCompile inputs (run_state old.opened old.starts (sink_states file_sink_state before))
+      (run_state new.opened new.starts (sink_states file_sink_state after)) state why → IsNoCompileAt base inputs state (Some after) old new why
   no_compile state why h = (
     made,
     subst (λ sinks. IsNoCompile inputs (run_state old.opened old.starts sinks)
-        (run_state new.opened new.starts (sink_states state_with_path after)) state why) first h,
+        (run_state new.opened new.starts (sink_states file_sink_state after)) state why) first h,
   )

@@ -1,8 +1,8 @@
 -- A compile to the files of BASE: the states of their sinks, the result, and the errors.
-use Rattle.std.specs.Prelude.{◌≡◌, ℕ, Bool, false, List, [], ◌++◌, map, Option, Some, None, IsTrue}
+use Rattle.std.specs.Prelude.{◌≡◌, ℕ, Bool, false, List, [], ◌++◌, map, Option, Some, None}
 use Rattle.devices.specs.feeds.FeedState.{FeedState}
 use Rattle.devices.specs.feeds.FileFeedView.{file_state}
-use Rattle.devices.specs.sinks.FileSinkView.{FileSinkView, unbegun}
+use Rattle.devices.specs.sinks.FileSinkView.{FileSinkView, file_sink_state, unbegun}
 use Rattle.devices.specs.sinks.SinkState.{SinkState}
 use Rattle.minelib_lines.specs.TextNames.{all_texts, ending_of}
 use Rattle.minelib_lines.specs.declared.text_name.TextName.{TextName}
@@ -26,17 +26,9 @@ base_path base name = path_to base (ending_of name)
 abbrev pub base_paths : List ℕ → List (List ℕ)
 base_paths base = map (λ name. path_to base (ending_of name)) all_texts
 
--- the state of a sink over a file, with the path of the file as the bytes before the text: a run never changes these
-abbrev pub state_with_path : FileSinkView → SinkState
-state_with_path s = record { begun = s.begun; before = s.path; taken = s.held; failures = s.failures }
-
 -- the states of the sinks of the files of BASE before they are begun, by whether these files report their content
 abbrev pub unbegun_at : Bool → List ℕ → TextName → SinkState
-unbegun_at reports base name = state_with_path (unbegun reports (base_path base name))
-
--- once the sink is begun, there is a file at its path
-abbrev pub HasFile : {F : Type 0} → (F → List ℕ) → FileSinkView → Type 0
-HasFile {F} path s = IsTrue s.begun → ((file : F) × (path file ≡ s.path))
+unbegun_at reports base name = file_sink_state (unbegun reports (base_path base name))
 
 -- there is a file at each path of BASE
 abbrev pub AreThere : {F : Type 0} → (F → List ℕ) → List ℕ → Type 0
@@ -51,7 +43,7 @@ module _ (base : List ℕ) (inputs : Inputs) where
   ReportsRowsAt (Some sinks) old new =
       (new.made ≡ old.made ++ base_paths base)
       × ReportsRows inputs (run_state old.opened old.starts (unbegun_at old.reports base))
-      (run_state new.opened new.starts (sink_states state_with_path sinks)) old.text new.text
+      (run_state new.opened new.starts (sink_states file_sink_state sinks)) old.text new.text
 
   -- by the states of feeds
   module _ {F : Type 0} (state : F → FeedState) where
@@ -63,7 +55,7 @@ module _ (base : List ℕ) (inputs : Inputs) where
     IsNoCompileAt (Some sinks) old new refused =
         (new.made ≡ old.made ++ base_paths base)
         × IsNoCompile inputs (run_state old.opened old.starts (unbegun_at old.reports base))
-        (run_state new.opened new.starts (sink_states state_with_path sinks)) state refused
+        (run_state new.opened new.starts (sink_states file_sink_state sinks)) state refused
 
 -- a system before a command: no file was requested, no slot was made, and no start was spent
 abbrev pub system_world : (text lines : List ℕ) → World

@@ -2,7 +2,8 @@
 
 ghost use Rattle.std.specs.Prelude.{◌≡◌, map, string_bytes};
 ghost use Rattle.minelib_lines.specs.declared.text_name.TextName.{TextName as AName};
-ghost use Rattle.compile_command.specs.BaseFiles.{AreThere, HasFile, IsNoCompileAt, ReportsRowsAt};
+ghost use Rattle.devices.specs.sinks.FileSinkView.{HasFile};
+ghost use Rattle.compile_command.specs.BaseFiles.{AreThere, IsNoCompileAt, ReportsRowsAt};
 ghost use Rattle.compile_command.specs.Compile.{IsNoCompile, ReportsRows};
 ghost use Rattle.pit_compile.specs.Sinks.{sink_of, sink_states};
 ghost use Rattle.command_io.specs.RunState.{Inputs as AnInputs, run_state};
@@ -12,13 +13,13 @@ ghost use Rattle.run_threads.specs.Starts.{none_spent, AreSettled};
 
 use crate::compile::compile_into;
 use crate::instance_files::sinks_of;
-use crate::placed_sink::PlacedSink;
 use command_io::ending::Ended;
 use command_io::refused::Refused;
 use command_io::refused::fault_line::report;
 use command_io::world::World;
 use devices::files::file_slot::{FileSlot, FileSlots};
 use devices::files::opener::Opener;
+use devices::sinks::file_sink::FileSink;
 use devices::sinks::sink::Sink;
 use pit_compile::settings::Settings;
 use pit_compile::sinks::Sinks;
@@ -29,7 +30,7 @@ use std::sync::Wait;
 use std::thread::Threads;
 
 /// The end of a task, with the sinks of the files of BASE.
-pub type TaskEnded<P> = Ended<Sinks<PlacedSink<P>>>;
+pub type TaskEnded<P> = Ended<Sinks<FileSink<P>>>;
 
 /// Compiles the zone files at these paths, like `compile_into`, into sinks for the files of BASE: `BASE.blocks` and so on, which
 /// replace existing files. Makes exactly one slot for each. Returns the end of the task.
@@ -128,12 +129,13 @@ fn compile_with<R: Threads + Wait + Sync, O: Opener + Drop, F: FileSlots + Drop,
 }
 
 // Shows contracts that there is a file at the path of each begun sink. Does nothing.
-fn show_all<P: FileSlot>(sinks: &Sinks<PlacedSink<P>>)
-    ensures { (name : AName) → HasFile P.File.path (sink_of sinks.now name) }
+fn show_all<P: FileSlot>(sinks: &Sinks<FileSink<P>>)
+    ensures { (name : AName) → let sink = sink_of sinks.now name in
+        HasFile P.File.path sink.begun sink.path }
 {
-    let _ = sinks.blocks.sink();
-    let _ = sinks.prec.sink();
-    let _ = sinks.upit.sink();
-    let _ = sinks.pcpsp.sink();
-    let _ = sinks.cpit.sink();
+    let _ = sinks.blocks.file();
+    let _ = sinks.prec.file();
+    let _ = sinks.upit.file();
+    let _ = sinks.pcpsp.file();
+    let _ = sinks.cpit.file();
 }

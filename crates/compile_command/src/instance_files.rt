@@ -7,8 +7,8 @@ ghost use Rattle.pit_compile.specs.Sinks.{sink_of};
 ghost use Rattle.devices.specs.sinks.FileSinkView.{unbegun};
 ghost use Rattle.command_io.specs.FilePath.{path_to};
 
-use crate::placed_sink::PlacedSink;
 use devices::files::file_slot::FileSlots;
+use devices::sinks::file_sink::FileSink;
 use minelib_lines::text_name::TextName;
 use pit_compile::sinks::Sinks;
 use std::alloc::{AllocError, Global};
@@ -19,7 +19,7 @@ pub fn sinks_of<F: FileSlots>(
     files: &mut F,
     alloc: Global,
     base: &str,
-) -> Result<Sinks<PlacedSink<F::Slot>>, AllocError>
+) -> Result<Sinks<FileSink<F::Slot>>, AllocError>
     ensures sinks { IfOk result (λ sinks. (name : AName)
         → sink_of sinks name ≡ unbegun F.Slot.reports (path_to base.now (ending_of name))) }
     ensures made { OnOk result (F.made files.new
@@ -28,11 +28,11 @@ pub fn sinks_of<F: FileSlots>(
 {
     let paths = paths_of(alloc, base)?;
     Ok(Sinks {
-        blocks: PlacedSink::from_slot(files.slot(paths.blocks)),
-        prec: PlacedSink::from_slot(files.slot(paths.prec)),
-        upit: PlacedSink::from_slot(files.slot(paths.upit)),
-        pcpsp: PlacedSink::from_slot(files.slot(paths.pcpsp)),
-        cpit: PlacedSink::from_slot(files.slot(paths.cpit)),
+        blocks: FileSink::from_slot(files.slot(paths.blocks)),
+        prec: FileSink::from_slot(files.slot(paths.prec)),
+        upit: FileSink::from_slot(files.slot(paths.upit)),
+        pcpsp: FileSink::from_slot(files.slot(paths.pcpsp)),
+        cpit: FileSink::from_slot(files.slot(paths.cpit)),
     })
 }
 

@@ -7,6 +7,5 @@ pub mod instance_files;
 pub mod laws;
 pub mod model;
 pub mod pipe_form;
-pub mod placed_sink;
 pub mod refusal_line;
 pub mod task;

@@ -3,7 +3,7 @@
 ghost use Rattle.std.specs.Prelude.{◌≡◌, ◌+◌, [], false, true, ◌++◌, ◌∷◌, is_some, IsErr, IsOk, IsTrue, IfOk, IfSome, OnOk, OnErr};
 ghost use Rattle.std.specs.Io.KnownBytes.{WriteAppends};
 ghost use Rattle.devices.specs.files.Reported.{held_report};
-ghost use Rattle.devices.specs.sinks.FileSinkView.{file_sink_state as sink_state, unbegun, HoldsNewFile};
+ghost use Rattle.devices.specs.sinks.FileSinkView.{file_sink_state as sink_state, unbegun, HasFile, HoldsNewFile};
 ghost use Rattle.devices.specs.sinks.SinkState.{IsCutOff, IsWritten, IsPut};
 
 use crate::count::{Count, raised};
@@ -15,7 +15,7 @@ use std::marker::Model;
 use std::snapshot::Snapshot;
 
 /// A sink that writes to the file of its slot, which it creates once. It reports the bytes of the file if the file does, and no file of a
-/// system does. Only `new` allocates memory.
+/// system does. Contracts see the path of the file as the bytes before its text, which no writer changes. Only `new` allocates memory.
 #[derive(Drop)]
 pub struct FileSink<P: FileSlot> {
     // its slot, until the file is to be created
@@ -30,7 +30,7 @@ impl<P: FileSlot> Model for FileSink<P> {
     ghost use Rattle.std.specs.Prelude.{◌≡◌, is_some, IfSome};
     ghost use Rattle.devices.specs.Count.{count_of};
     ghost use Rattle.devices.specs.files.Reported.{file_report, Reports};
-    ghost use Rattle.devices.specs.sinks.FileSinkView.{FileSinkView};
+    ghost use Rattle.devices.specs.sinks.FileSinkView.{FileSinkView, HasFile};
 
     ghost Value = { FileSinkView };
 
@@ -43,7 +43,8 @@ impl<P: FileSlot> Model for FileSink<P> {
     } };
 
     ghost invariant = { λ s. IfSome s.slot (λ slot. slot ≡ s.first.value)
-        × Reports P.reports P.File.contents s.file };
+        × Reports P.reports P.File.contents s.file
+        × HasFile P.File.path (is_some s.file) (P.path s.first.value) };
 }
 
 impl<P: FileSlot> FileSink<P> {
@@ -89,6 +90,7 @@ impl<P: FileSlot> FileSink<P> {
     pub fn file(&self) -> Option<&P::File>
         ensures begun { is_some result ≡ self.now.begun }
         ensures held { IfSome result (λ file. held_report P.reports (P.File.contents file.now) ≡ self.now.held) }
+        ensures there { HasFile P.File.path self.now.begun self.now.path }
     {
         self.file.as_ref()
     }
