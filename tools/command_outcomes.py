@@ -307,7 +307,7 @@ def altered(command: Command) -> Iterator[Tuple[str, Command]]:
 
 
 def other_errors(named: List[Tuple[str, Command]]) -> Iterator[Tuple[str, Command]]:
-    """Yields outcomes with a file too few that report another error."""
+    """Yields outcomes with a file too few, or with one too many in the pipe form, that report another error, and the other way round."""
     found = dict(named)
     few, row, thread = (found.get(name) for name in ("a file too few", "an invalid row", "0 threads"))
     if few and row and thread:
@@ -318,6 +318,12 @@ def other_errors(named: List[Tuple[str, Command]]) -> Iterator[Tuple[str, Comman
             lines=line_of(f"file 0 row {rows + 1} column whole: Width"),
             refused=invalid_row(0, rows + 1), threads=threads_of(VALUERS, 1))
         yield "a refused thread in place of the settings", thread._replace(words=few.words, opened=few.opened)
+    many, thread = (found.get(name) for name in ("a zone file too many", "no thread"))
+    if many and row and thread:
+        yield "an invalid row in place of the settings", row._replace(
+            given=row.given + b"--\n", read=row.read + 3, threads=threads_of(4, row.threads[1] + 1))
+        yield "a refused thread in place of the settings", thread._replace(given=many.given, read=many.read)
+        yield "the settings in place of an invalid row", many._replace(given=row.given, read=row.read)
 
 
 def tried(named: List[Tuple[str, Command]]) -> Iterator[Tuple[str, Command, bool]]:
