@@ -1,19 +1,19 @@
 -- The number of identifiers in lists, counted by the rows of the cones.
-use Rattle.std.proofs.Common.{◌≡◌, ℕ, zero, suc, ◌+◌, ◌-◌, ◌*◌, ◌<◌, ◌≤◌, ◌==◌, Bool, true, false, List, [], ◌∷◌, All, length, drop, take, get_or, nat_lt, refl, sym, ap, subst, ◌∙◌, arith, length-append, ⊎_elim, if◌then◌else◌}
+use Rattle.std.proofs.Common.{◌≡◌, ℕ, zero, suc, ◌+◌, ◌-◌, ◌*◌, ◌<◌, ◌≤◌, ◌==◌, Bool, true, false, List, [], ◌∷◌, All, Contains, length, drop, take, get_or, nat_lt, refl, sym, ap, subst, ◌∙◌, arith, length-append, ⊎_elim, if◌then◌else◌}
 use Rattle.std.specs.Prelude.{sum_by}
 use Rattle.std.specs.List.{range_with_len}
 use Rattle.std.specs.List.Sorted.{IsStrictlyIncreasing}
 use Rattle.std.specs.Simd.Lanes.{zip2}
-use Rattle.std.proofs.lemmas.Bool.{cases_Bool, cases_lt, eqb-true, eqb-false, lt-ltb, le-ltb}
-use Rattle.std.proofs.lemmas.List.Elements.{All-head, All-tail}
+use Rattle.std.proofs.lemmas.Bool.{cases_lt, eqb-true, lt-ltb, le-ltb}
+use Rattle.std.proofs.lemmas.Bool.Decides.{nat_tests}
+use Rattle.std.proofs.lemmas.List.Elements.{All-head, All-tail, Contains-append_right, Contains-get_or}
 use Rattle.std.proofs.lemmas.List.FromFn.{length-range_with_len}
 use Rattle.std.proofs.lemmas.List.Sums.{sum_by-cons, sum_by_more}
 use Rattle.precedence.specs.Cone.{positions_where}
-use Rattle.precedence.specs.IdRanges.{is_in}
 use Rattle.precedence.specs.inner.Arcs.{arcs_before, codes_with, count_in}
 use Rattle.precedence.specs.inner.Rows.{is_in_rows, start_of, LieApart}
 use Rattle.precedence.specs.declared.cones.cone_rows.Row.{Row}
-use Rattle.precedence.proofs.Listed.{at_in, first_below, first_in, in_right, or_cases, tail_rises}
+use Rattle.precedence.proofs.Members.{cons_cases, first_below, tail_rises}
 use Rattle.precedence.proofs.ranges.RangesOfRows.{adds_range}
 use Rattle.precedence.proofs.ranges.Starts.{no_less, start_before, start_grows, start_within}
 
@@ -42,6 +42,14 @@ row_more codes rows high i row rising apart lt is from =
     ∙ length-append (range_with_len first (past - first)) rest
     ∙ ap (λ n. n + length rest) (length-range_with_len first (past - first))
 
+-- the number with one more table, and the sum with one more element
+next_table : (p t n : ℕ) → (if nat_lt p (t + 1) then n else 0) ≡ (if nat_lt p t then n else 0) + (if p == t then n else 0)
+next_table p t n = grind (arith, nat_tests)
+
+next_own : (b : Bool) (f : ℕ → ℕ) (n c : ℕ) (own : List ℕ) → (b ≡ true → n ≡ f c) → sum_by f (if b then c ∷ own else own) ≡ (if b then n else 0) + sum_by f own
+next_own true f n c own same = omega (arith, same refl, sum_by-cons f c own)
+next_own false f n c own same = omega arith
+
 module _ (list : ℕ → ℕ → List ℕ) (of_zone : List ℕ) where
   -- the number with the next table
   pub table_more : (t : ℕ) (f : ℕ → ℕ) → ((z c : ℕ) → get_or of_zone z 0 ≡ t → length (list z c) ≡ f c) → (zones codes : List ℕ)
@@ -50,39 +58,12 @@ module _ (list : ℕ → ℕ → List ℕ) (of_zone : List ℕ) where
   table_more t f same (z ∷ zs) [] = refl
   table_more t f same (z ∷ zs) (c ∷ cs) =
       let p = get_or of_zone z 0 in
-      let len = length (list z c) in
-      let before = arcs_before list of_zone t zs cs in
-      let after = arcs_before list of_zone (t + 1) zs cs in
-      let own = codes_with of_zone t zs cs in
-      let rest : after ≡ before + sum_by f own = table_more t f same zs cs in
-      ⊎_elim
-      (λ is.
-      let e : p ≡ t = eqb-true _ _ is in
-      let now : nat_lt p (t + 1) ≡ true = lt-ltb _ _ (omega arith) in
-      let no : nat_lt p t ≡ false = le-ltb _ _ (omega arith) in
-      (λ j. (if now j then len else 0) + after)
-      ∙ omega (arith, rest, same z c e, sum_by-cons f c own)
-      ∙ (λ j. ((if sym no j then len else 0) + before) + sum_by f (if sym is j then c ∷ own else own)))
-      (λ not.
-      ⊎_elim
-      (λ less.
-      let now : nat_lt p (t + 1) ≡ true = lt-ltb _ _ (omega arith) in
-      let old : nat_lt p t ≡ true = lt-ltb _ _ less in
-      (λ j. (if now j then len else 0) + after)
-      ∙ omega (arith, rest)
-      ∙ (λ j. ((if sym old j then len else 0) + before) + sum_by f (if sym not j then c ∷ own else own)))
-      (λ ge.
-      let more : t + 1 ≤ p = ⊎_elim
-      (λ lt. absurd (let e : p ≡ t = omega arith in eqb-false _ _ not e))
-      (λ le. le)
-      (cases_lt p (t + 1)) in
-      let now : nat_lt p (t + 1) ≡ false = le-ltb _ _ more in
-      let no : nat_lt p t ≡ false = le-ltb _ _ ge in
-      (λ j. (if now j then len else 0) + after)
-      ∙ omega (arith, rest)
-      ∙ (λ j. ((if sym no j then len else 0) + before) + sum_by f (if sym not j then c ∷ own else own)))
-      (cases_lt p t))
-      (cases_Bool (p == t))
+      omega (
+        arith,
+        next_table p t (length (list z c)),
+        next_own (p == t) f (length (list z c)) c (codes_with of_zone t zs cs) (λ is. same z c (eqb-true _ _ is)),
+        table_more t f same zs cs,
+      )
 
   -- no arcs before the first table
   pub no_table : (zones codes : List ℕ) → arcs_before list of_zone 0 zones codes ≡ 0
@@ -116,26 +97,16 @@ module _ (list : ℕ → ℕ → List ℕ) (of_zone : List ℕ) where
       one false rest here = omega (arith, rest, here)
 
 -- codes with empty rows add nothing
-pub sum_skip : {X : Type 0} (f : X → ℕ) (xs : List X) (d : X) (k n : ℕ) → k + n ≤ length xs
-    → ((j : ℕ) → k ≤ j → j < k + n → f (get_or xs j d) ≡ 0) → sum_by f (take (k + n) xs) ≡ sum_by f (take k xs)
-sum_skip f xs d k zero le none = let same : k + zero ≡ k = omega arith in ap (λ m. sum_by f (take m xs)) same
-sum_skip f xs d k (suc n) le none =
-    let more : k + suc n ≡ (k + n) + 1 = omega arith in
-    ap (λ m. sum_by f (take m xs)) more
-    ∙ omega (
-      arith,
-      sum_by_more f xs (k + n) d (omega (arith, le)),
-      none (k + n) (omega arith) (omega arith),
-      sum_skip f xs d k n (omega (arith, le)) (λ j low up. none j low (omega (arith, up))),
-    )
-
--- equal counts from one index up to another
 pub sum_to : {X : Type 0} (f : X → ℕ) (xs : List X) (d : X) (k to : ℕ) → k ≤ to → to ≤ length xs
     → ((j : ℕ) → k ≤ j → j < to → f (get_or xs j d) ≡ 0) → sum_by f (take to xs) ≡ sum_by f (take k xs)
-sum_to f xs d k to le within none =
-    let at : k + (to - k) ≡ to = omega (arith, le) in
-    ap (λ m. sum_by f (take m xs)) (sym at)
-    ∙ sum_skip f xs d k (to - k) (omega (arith, le, within)) (λ j low up. none j low (omega (arith, up, le)))
+sum_to f xs d k zero le within none = let same : zero ≡ k = omega arith in ap (λ m. sum_by f (take m xs)) same
+sum_to f xs d k (suc to) le within none = ⊎_elim
+    (λ less.
+    let more : suc to ≡ to + 1 = omega arith in
+    let rest = sum_to f xs d k to (omega arith) (omega arith) (λ j low up. none j low (omega (arith, up))) in
+    omega (arith, ap (λ m. sum_by f (take m xs)) more, sum_by_more f xs to d within, none to (omega arith) (omega arith), rest))
+    (λ all. let same : suc to ≡ k = omega arith in ap (λ m. sum_by f (take m xs)) same)
+    (cases_lt k (suc to))
 
 -- if a row is empty for one code, it is empty for the next ones, up to where it reaches the next identifier
 pub none_in : (codes own : List ℕ) (row : Row) (k j : ℕ) → IsStrictlyIncreasing codes → IsStrictlyIncreasing own → k ≤ j → j < length own
@@ -162,26 +133,26 @@ none_in codes own row k j rise own_rises le lt empty below = ⊎_elim
 
 -- ---- the codes of the blocks with a table ascend
 
-cons_rises : (x : ℕ) (xs : List ℕ) → IsStrictlyIncreasing xs → ((c : ℕ) → is_in xs c ≡ true → x < c) → IsStrictlyIncreasing (x ∷ xs)
-cons_rises x xs rise below zero lt = below (get_or xs 0 0) (at_in xs 0 (omega (arith, lt)))
+cons_rises : (x : ℕ) (xs : List ℕ) → IsStrictlyIncreasing xs → ((c : ℕ) → Contains xs c → x < c) → IsStrictlyIncreasing (x ∷ xs)
+cons_rises x xs rise below zero lt = below (get_or xs 0 0) (Contains-get_or xs 0 0 (omega (arith, lt)))
 cons_rises x xs rise below (suc k) lt =
     let e : suc k + 1 ≡ suc (k + 1) = omega arith in
     subst (λ n. get_or xs k 0 < get_or (x ∷ xs) n 0) (sym e) (rise k (omega (arith, lt)))
 
-codes_among : (of_zone : List ℕ) (t : ℕ) (zones codes : List ℕ) (c : ℕ) → is_in (codes_with of_zone t zones codes) c ≡ true → is_in codes c ≡ true
-codes_among of_zone t [] codes c h = absurd (let no : ⊥ = cc in no)
+codes_among : (of_zone : List ℕ) (t : ℕ) (zones codes : List ℕ) (c : ℕ) → Contains (codes_with of_zone t zones codes) c → Contains codes c
+codes_among of_zone t [] codes c h = absurd (let lt = h.1 in omega arith)
 codes_among of_zone t (z ∷ zs) [] c h = h
 codes_among of_zone t (z ∷ zs) (x ∷ cs) c h = one (get_or of_zone z 0 == t) (codes_among of_zone t zs cs c) h
   where
     own : List ℕ
     own = codes_with of_zone t zs cs
 
-    one : (b : Bool) → (is_in own c ≡ true → is_in cs c ≡ true) → is_in (if b then x ∷ own else own) c ≡ true → is_in (x ∷ cs) c ≡ true
+    one : (b : Bool) → (Contains own c → Contains cs c) → Contains (if b then x ∷ own else own) c → Contains (x ∷ cs) c
     one true among h = ⊎_elim
-        (λ is. subst (λ (c : ℕ). is_in (x ∷ cs) c ≡ true) (eqb-true _ _ is) (first_in x cs))
-        (λ later. in_right (x ∷ []) cs c (among later))
-        (or_cases (x == c) (is_in own c) h)
-    one false among h = in_right (x ∷ []) cs c (among h)
+        (λ is. (0, omega arith, is))
+        (λ later. Contains-append_right (x ∷ []) cs c (among later))
+        (cons_cases x own c h)
+    one false among h = Contains-append_right (x ∷ []) cs c (among h)
 
 pub codes_rise : (of_zone : List ℕ) (t : ℕ) (zones codes : List ℕ) → IsStrictlyIncreasing codes → IsStrictlyIncreasing (codes_with of_zone t zones codes)
 codes_rise of_zone t [] codes rise = λ k lt. absurd (omega (arith, lt))

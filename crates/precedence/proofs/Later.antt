@@ -1,14 +1,15 @@
 -- A predecessor has a larger identifier.
-use Rattle.std.proofs.Common.{◌≡◌, ℕ, ◌<◌, true, false, List, [], ◌∷◌, Contains, length, get_or, slice_get, ap, arith, ⊎_elim}
+use Rattle.std.proofs.Common.{◌≡◌, ℕ, ◌<◌, true, false, List, [], Contains, length, get_or, slice_get, ap, arith, ⊎_elim}
 use Rattle.std.proofs.lemmas.Bool.{cases_lt}
 use Rattle.std.proofs.lemmas.Bool.Decides.{nat_tests}
-use Rattle.std.proofs.lemmas.List.{get_or_past, length-map}
+use Rattle.std.proofs.lemmas.List.{length-map}
 use Rattle.plan_parts.specs.Plan.{PlanParts}
 use Rattle.plan_parts.specs.declared.block.Block.{Block}
 use Rattle.precedence.specs.Cone.{above, preds}
 use Rattle.precedence.specs.Identifier.{comes_before}
 use Rattle.precedence.specs.Numbering.{IsNumbering, NumberingView}
 use Rattle.precedence.proofs.LawFacts.{preds_higher}
+use Rattle.precedence.proofs.Members.{in_list, some_of}
 use Rattle.precedence.proofs.Order.{in_order}
 
 -- a block that comes before another is on no higher bench
@@ -21,12 +22,7 @@ module _ (plan : PlanParts) (listed : List Block) (n : NumberingView) (numbering
   long = length-map n.blocks (λ (low : Block). above plan.grid (slice_get plan.cones low.zone) n.blocks low)
 
   within : b < length n.blocks
-  within = ⊎_elim
-      (λ lt. lt)
-      (λ past.
-      let none = ap (λ (list : List ℕ). length list) (get_or_past (preds plan n.blocks) b [] (omega (arith, long))) in
-      absurd (let lt = has.1 in omega arith))
-      (cases_lt b (length n.blocks))
+  within = omega (arith, in_list (preds plan n.blocks) b c has, long)
 
   later : (d : Block) → b < c
   later d =
@@ -42,8 +38,5 @@ module _ (plan : PlanParts) (listed : List Block) (n : NumberingView) (numbering
 
 pub come_later : (plan : PlanParts) (listed : List Block) (n : NumberingView) (b c : ℕ) → IsNumbering listed n
     → Contains (get_or (preds plan n.blocks) b []) c → b < c
-come_later plan listed n b c numbering has = first n.blocks (within plan listed n numbering b c has)
-  where
-    first : (blocks : List Block) → b < length blocks → b < c
-    first [] lt = absurd (omega arith)
-    first (d ∷ ds) lt = later plan listed n numbering b c has d
+come_later plan listed n b c numbering has =
+    later plan listed n numbering b c has (some_of n.blocks b (within plan listed n numbering b c has))

@@ -6,8 +6,7 @@ use Rattle.std.specs.List.Sorted.{IsStrictlyIncreasing}
 use Rattle.std.proofs.Math.Nat.{mul-le-mul, mul-le-mul_left, le_of_mul-le-mul_left}
 use Rattle.std.proofs.Math.Bool.{and-false}
 use Rattle.std.proofs.lemmas.List.Folds.{list_any_at, list_any_none}
-use Rattle.std.proofs.lemmas.Bool.{cases_Bool, cases_lt, le-leb, lt-leb, ltb-true, eqb-true, eq-eqb, and_parts}
-use Rattle.std.proofs.lemmas.Bool.Decides.{nat_tests}
+use Rattle.std.proofs.lemmas.Bool.{cases_Bool, cases_lt, le-leb, le-ltb, lt-leb, lt-ltb, ltb-true, eqb-true, eq-eqb, and_parts}
 use Rattle.std.proofs.lemmas.List.{get_or-map, get_or_default}
 use Rattle.std.proofs.lemmas.List.Elements.{All-contains, All-filter, All-same, filter_passes}
 use Rattle.std.proofs.lemmas.List.FromFn.{get_or-range_with_len, length-range_with_len}
@@ -38,18 +37,14 @@ seen_same_cone grid one other low high along across benches =
 
 -- the chosen slope, if the other one changes
 first_taken : (m n : ℕ) (first second other : Slope) → m < n → (if nat_lt m n then first else other) ≡ (if nat_lt m n then first else second)
-first_taken m n first second other less = by_test (nat_lt m n) (grind (arith, nat_tests))
-  where
-    by_test : (t : Bool) → t ≡ true → (if t then first else other) ≡ (if t then first else second)
-    by_test true e = refl
-    by_test false e = absurd cc
+first_taken m n first second other less =
+    let yes : nat_lt m n ≡ true = lt-ltb m n less in
+    (λ j. if yes j then first else other) ∙ (λ j. if sym yes j then first else second)
 
 second_taken : (m n : ℕ) (first second other : Slope) → n < m → (if nat_lt m n then other else second) ≡ (if nat_lt m n then first else second)
-second_taken m n first second other more = by_test (nat_lt m n) (grind (arith, nat_tests))
-  where
-    by_test : (t : Bool) → t ≡ false → (if t then other else second) ≡ (if t then first else second)
-    by_test true e = absurd cc
-    by_test false e = refl
+second_taken m n first second other more =
+    let no : nat_lt m n ≡ false = le-ltb m n (omega arith) in
+    (λ j. if no j then other else second) ∙ (λ j. if sym no j then first else second)
 
 module _ (grid : Grid) (cone : Cone) (low high : Block) where
   pub east_alone : (west : Slope) → low.x < high.x → is_above grid (record cone { west = west }) low high ≡ is_above grid cone low high

@@ -4,7 +4,6 @@ pub mod Geometry
 pub mod Identifiers
 pub mod Later
 pub mod LawFacts
-pub mod Listed
 pub mod Members
 pub mod Order
 pub mod Pieces

@@ -1,8 +1,14 @@
 -- The numbers of elements that pass a test: with the next element, and as a filter of all numbers.
-use Rattle.std.proofs.Common.{◌≡◌, ℕ, zero, suc, ◌+◌, ◌<◌, ◌≤◌, ◌==◌, ◌||◌, Bool, true, false, List, [], ◌∷◌, ◌++◌, filter, length, length-take-le, take, get_or, refl, sym, ap, ◌∙◌, arith, if◌then◌else◌}
+use Rattle.std.proofs.Common.{◌≡◌, ℕ, suc, ◌+◌, ◌<◌, ◌≤◌, ◌==◌, ◌&&◌, Bool, true, false, List, [], ◌∷◌, ◌++◌, filter, length, length-take-le, take, get_or, refl, sym, ap, ◌∙◌, arith, if◌then◌else◌}
 use Rattle.std.specs.List.{enumerate_from, range_with_len}
-use Rattle.std.proofs.lemmas.List.{get_or_default, take_more}
+use Rattle.std.proofs.Math.Bool.{and-true}
+use Rattle.std.proofs.lemmas.Bool.{eq-eqb, eqb-true}
 use Rattle.std.proofs.lemmas.Bool.Decides.{nat_tests}
+use Rattle.std.proofs.lemmas.List.{get_or_default, take_more}
+use Rattle.std.proofs.lemmas.List.Elements.{All-filter}
+use Rattle.std.proofs.lemmas.List.Folds.{list_any_at, list_any_none}
+use Rattle.std.proofs.lemmas.List.FromFn.{get_or-range_with_len, length-range_with_len}
+use Rattle.std.proofs.lemmas.Map.Views.{any-filter_same}
 use Rattle.precedence.specs.Cone.{positions_where}
 use Rattle.precedence.specs.IdRanges.{is_in}
 
@@ -53,45 +59,21 @@ length-positions_where test n (x ∷ xs) = one (test x) (length-positions_where 
 
 -- ---- members
 
--- one number before the others
-is_in_front : (t : Bool) (n m : ℕ) (rest : List ℕ) → (n == m) ≡ false → is_in (if t then n ∷ rest else rest) m ≡ is_in rest m
-is_in_front true n m rest other = ap (λ b. b || is_in rest m) other
-is_in_front false n m rest other = refl
-
--- no number below the first
-none_before : {X : Type 0} (test : X → Bool) (n m : ℕ) (xs : List X) → m < n → is_in (positions_where test n xs) m ≡ false
-none_before test n m [] lt = refl
-none_before test n m (x ∷ xs) lt =
-    let other : (n == m) ≡ false = grind (arith, nat_tests) in
-    is_in_front (test x) n m (positions_where test (n + 1) xs) other ∙ none_before test (n + 1) m xs (omega arith)
-
--- no number after the last
-none_after : {X : Type 0} (test : X → Bool) (n m : ℕ) (xs : List X) → n + length xs ≤ m → is_in (positions_where test n xs) m ≡ false
-none_after test n m [] le = refl
-none_after test n m (x ∷ xs) le =
-    let other : (n == m) ≡ false = grind (arith, nat_tests) in
-    is_in_front (test x) n m (positions_where test (n + 1) xs) other ∙ none_after test (n + 1) m xs (omega arith)
-
--- the first number, if the first element passes
-is_in_first : (t : Bool) (n : ℕ) (rest : List ℕ) → is_in rest n ≡ false → is_in (if t then n ∷ rest else rest) n ≡ t
-is_in_first true n rest none = let same : (n == n) ≡ true = grind (arith, nat_tests) in ap (λ b. b || is_in rest n) same
-is_in_first false n rest none = none
-
-exact_at : {X : Type 0} (test : X → Bool) (n m k : ℕ) (xs : List X) (d : X) → k < length xs → n + k ≡ m
-    → is_in (positions_where test n xs) m ≡ test (get_or xs k d)
-exact_at test n m k [] d lt is = absurd (omega arith)
-exact_at test n m zero (x ∷ xs) d lt is =
-    let here : n ≡ m = omega arith in
-    ap (is_in (positions_where test n (x ∷ xs))) (sym here)
-    ∙ is_in_first (test x) n (positions_where test (n + 1) xs) (none_before test (n + 1) n xs (omega arith))
-exact_at test n m (suc k) (x ∷ xs) d lt is =
-    let other : (n == m) ≡ false = grind (arith, nat_tests) in
-    is_in_front (test x) n m (positions_where test (n + 1) xs) other ∙ exact_at test (n + 1) m k xs d (omega arith) (omega arith)
-
 -- exactly the numbers of elements that pass
 pub exact_where : {X : Type 0} (test : X → Bool) (k : ℕ) (xs : List X) (d : X) → k < length xs
     → is_in (positions_where test 0 xs) k ≡ test (get_or xs k d)
-exact_where test k xs d lt = exact_at test 0 k k xs d lt (omega arith)
+exact_where test k xs d lt =
+    let all = range_with_len 0 (length xs) in
+    let at : get_or all k 0 ≡ k = omega (arith, get_or-range_with_len 0 (length xs) k 0 lt) in
+    let own : is_in all k ≡ true = list_any_at (λ m. m == k) all k 0 (omega (arith, lt, length-range_with_len 0 (length xs))) (eq-eqb _ _ at) in
+    ap (λ ids. is_in ids k) (where_at test d xs)
+    ∙ any-filter_same (λ m. m == k) (λ m. test (get_or xs m d)) (test (get_or xs k d)) (λ m is. ap (λ n. test (get_or xs n d)) (eqb-true _ _ is)) all
+    ∙ ap (λ b. test (get_or xs k d) && b) own ∙ and-true (test (get_or xs k d))
 
-pub exact_nowhere : {X : Type 0} (test : X → Bool) (k : ℕ) (xs : List X) → length xs ≤ k → is_in (positions_where test 0 xs) k ≡ false
-exact_nowhere test k xs le = none_after test 0 k xs (omega arith)
+pub exact_nowhere : {X : Type 0} (test : X → Bool) (k : ℕ) (xs : List X) (d : X) → length xs ≤ k → is_in (positions_where test 0 xs) k ≡ false
+exact_nowhere test k xs d le =
+    ap (λ ids. is_in ids k) (where_at test d xs)
+    ∙ list_any_none (λ m. m == k) _ (All-filter (λ m. test (get_or xs m d)) (λ m. (m == k) ≡ false) (range_with_len 0 (length xs)) (λ i e lt.
+    let at = get_or-range_with_len 0 (length xs) i e (omega (arith, lt, length-range_with_len 0 (length xs))) in
+    let less : get_or (range_with_len 0 (length xs)) i e < k = omega (arith, at, lt, le, length-range_with_len 0 (length xs)) in
+    grind (arith, nat_tests)))

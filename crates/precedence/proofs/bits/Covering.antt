@@ -1,21 +1,16 @@
 -- What lanes meet by covers, and by the strips of all tables.
-use Rattle.std.proofs.Common.{◌≡◌, ℕ, ◌+◌, ◌-◌, ◌<◌, ◌≤◌, true, List, length, get_or, max, ◌⊎◌, inl, inr, ⊎_elim, sym, ap, subst, ◌∙◌, arith}
-use Rattle.std.proofs.lemmas.Bool.{cases_lt}
+use Rattle.std.proofs.Common.{◌≡◌, ℕ, ◌+◌, ◌-◌, ◌<◌, ◌≤◌, true, List, length, get_or, max, sym, ap, subst, ◌∙◌, arith}
 use Rattle.std.proofs.lemmas.List.{get_or_default}
 use Rattle.precedence.specs.inner.lanes.Bits.{has_bit}
-use Rattle.precedence.specs.inner.lanes.Windows.{IsCover, Meets, MeetsIn, MeetsAny, SeesAt}
+use Rattle.precedence.specs.inner.lanes.Windows.{IsCover, Meets, MeetsAny, MeetsIn, MeetsTable, SeesAt}
 use Rattle.precedence.specs.inner.Rows.{is_in_rows}
 use Rattle.precedence.specs.declared.cones.cone_rows.Row.{Row}
 use Rattle.precedence.specs.declared.cones.cone_table.ConeTable.{ConeTable}
 use Rattle.precedence.specs.declared.lanes.strip.Strip.{Strip}
 use Rattle.precedence.specs.declared.lanes.strips.Cover.{Cover}
 use Rattle.precedence.specs.declared.lanes.strips.Strips.{Strips}
+use Rattle.precedence.proofs.bits.StripsMet.{meets_at}
 use Rattle.precedence.proofs.ranges.RowOfCode.{in_this_row}
-
--- a lane meets the rows of one of the first n tables
-abbrev pub MeetsTables : List ConeTable → List Strips → (distance n i : ℕ) → Type 0
-MeetsTables tables by_table distance n i = (k : ℕ) × (k < n) × (k < length tables)
-    × ((t : ConeTable) (s : Strips) → MeetsIn (get_or by_table k s).strips.items (get_or tables k t).rows.items distance i)
 
 -- from a distance on, up to the end of a row that has begun and a cover, the cover has a distance from which the remainder is in the row
 pub row_covers : (rows : List Row) (number : ℕ) (row : Row) (first past distance d : ℕ) → number < length rows → row ≡ get_or rows number row → row.first < row.past
@@ -43,16 +38,20 @@ module _ (tables : List ConeTable) (by_table : List Strips) (each : length by_ta
   cover_meets lanes i d cover table lt is covers lane h =
       let some : cover.first < cover.past = omega (arith, h.1, h.2) in (
         cover.table,
-        lt,
-        λ t s. (
-          cover.strip,
-          covers.strip s some,
-          h.0,
-          λ u. record {
-            sees = covers.all i h.0 s u h.1 h.2 lane;
-            lower = h.3;
-            below = subst (λ rows. is_in_rows 0 rows (d - h.0) ≡ true) (same_rows cover.table table t lt is) h.4;
-          },
+        (
+          lt,
+          λ t s. (
+            cover.strip,
+            (
+              covers.strip s some,
+              h.0,
+              λ u. record {
+                sees = covers.all i h.0 s u h.1 h.2 lane;
+                lower = h.3;
+                below = subst (λ rows. is_in_rows 0 rows (d - h.0) ≡ true) (same_rows cover.table table t lt is) h.4;
+              },
+            ),
+          ),
         ),
       )
 
@@ -67,47 +66,14 @@ module _ (tables : List ConeTable) (by_table : List Strips) (each : length by_ta
   pub strip_meets : (distance i n k : ℕ) (table : ConeTable) (strips : Strips) (strip : Strip) → n < length tables → table ≡ get_or tables n table
       → strips ≡ get_or by_table n strips → k < length strips.strips.items → strip ≡ get_or strips.strips.items k strip
       → (e : ℕ) × Meets strip table.rows.items distance i e → MeetsAny tables by_table distance i
-  strip_meets distance i n k table strips strip lt table_is strips_is k_lt strip_is meets = (
-    n,
-    lt,
-    table_meets distance i n table strips lt table_is strips_is (
-      k,
-      k_lt,
-      meets.0,
-      λ s. subst (λ (u : Strip). Meets u table.rows.items distance i meets.0) (strip_is ∙ get_or_default strips.strips.items k strip s k_lt) meets.1,
-    ),
-  )
+  strip_meets distance i n k table strips strip lt table_is strips_is k_lt strip_is meets =
+      (n, (lt, table_meets distance i n table strips lt table_is strips_is (k, meets_at strips.strips.items table.rows.items distance k i strip k_lt strip_is meets)))
 
-  module _ (distance : ℕ) where
-    pub no_table : (i : ℕ) → MeetsTables tables by_table distance 0 i → ⊥
-    no_table i meets = omega (arith, meets.1)
-
-    pub more_tables : (n i : ℕ) → MeetsTables tables by_table distance n i → MeetsTables tables by_table distance (n + 1) i
-    more_tables n i meets = (meets.0, omega (arith, meets.1), meets.2, meets.3)
-
-    pub this_table : (n i : ℕ) (table : ConeTable) (strips : Strips) → n < length tables → table ≡ get_or tables n table
-        → strips ≡ get_or by_table n strips → MeetsIn strips.strips.items table.rows.items distance i → MeetsTables tables by_table distance (n + 1) i
-    this_table n i table strips lt table_is strips_is meets = (n, omega arith, lt, table_meets distance i n table strips lt table_is strips_is meets)
-
-    pub last_table : (n i : ℕ) (table : ConeTable) (strips : Strips) → n < length tables → table ≡ get_or tables n table
-        → strips ≡ get_or by_table n strips → MeetsTables tables by_table distance (n + 1) i
-        → MeetsTables tables by_table distance n i ⊎ MeetsIn strips.strips.items table.rows.items distance i
-    last_table n i table strips lt table_is strips_is meets = ⊎_elim
-        (λ less. inl (meets.0, less, meets.2, meets.3))
-        (λ le.
-        let same : meets.0 ≡ n = omega (arith, le, meets.1) in
-        let rows_are : (get_or tables meets.0 table).rows.items ≡ table.rows.items = ap (λ k. (get_or tables k table).rows.items) same ∙ ap (λ (t : ConeTable). t.rows.items) (sym table_is) in
-        let strips_are : (get_or by_table meets.0 strips).strips.items ≡ strips.strips.items =
-        ap (λ k. (get_or by_table k strips).strips.items) same ∙ ap (λ (s : Strips). s.strips.items) (sym strips_is) in
-        inr (subst (λ ss. MeetsIn ss table.rows.items distance i) strips_are
-        (subst (λ rows. MeetsIn (get_or by_table meets.0 strips).strips.items rows distance i) rows_are (meets.3 table strips))))
-        (cases_lt meets.0 n)
-
-    pub any_of_tables : (n i : ℕ) → MeetsTables tables by_table distance n i → MeetsAny tables by_table distance i
-    any_of_tables n i meets = (meets.0, meets.2, meets.3)
-
-    pub tables_of_any : (n i : ℕ) → length tables ≤ n → MeetsAny tables by_table distance i → MeetsTables tables by_table distance n i
-    tables_of_any n i all meets = (meets.0, omega (arith, meets.1), meets.1, meets.2)
+  pub meets_table : (distance n i : ℕ) (table : ConeTable) (strips : Strips) → n < length tables → table ≡ get_or tables n table
+      → strips ≡ get_or by_table n strips → MeetsTable tables by_table distance n i → MeetsIn strips.strips.items table.rows.items distance i
+  meets_table distance n i table strips lt table_is strips_is meets =
+      subst (λ (s : Strips). MeetsIn s.strips.items table.rows.items distance i) (sym strips_is)
+      (subst (λ (t : ConeTable). MeetsIn (get_or by_table n strips).strips.items t.rows.items distance i) (sym table_is) (meets.1 table strips))
 
 -- a cover of a strip
 pub cover_is : (by_table : List Strips) (lanes n k : ℕ) (strips : Strips) (strip : Strip) (cover : Cover) → n < length by_table → strips ≡ get_or by_table n strips

@@ -1,14 +1,12 @@
 -- What a strip adds to what a window sees.
-use Rattle.std.proofs.Common.{◌≡◌, ℕ, ◌+◌, ◌-◌, ◌<◌, ◌≤◌, ◌&&◌, ◌==◌, Bool, true, false, List, [], ◌∷◌, ◌++◌, length, map, set, get_or, max, min, nat_le, nat_lt, refl, sym, ap, subst, ◌∙◌, arith, ⊎_elim, length-append}
-use Rattle.std.specs.List.Sorted.{IsStrictlyIncreasing}
+use Rattle.std.proofs.Common.{◌≡◌, ℕ, ◌+◌, ◌-◌, ◌<◌, ◌≤◌, ◌&&◌, Bool, true, false, List, [], ◌∷◌, ◌++◌, length, map, set, get_or, max, min, nat_le, nat_lt, refl, sym, ap, subst, ◌∙◌, arith, ⊎_elim, length-append}
 use Rattle.std.proofs.lemmas.Bool.{and_parts, cases_eq, cases_lt, false≢true, le-leb, leb-true, lt-ltb, ltb-true}
-use Rattle.std.proofs.lemmas.Nat.Bits.{bit_at-zero}
 use Rattle.precedence.specs.inner.SameCone.{HaveSameConeFrom, Follows}
-use Rattle.std.proofs.lemmas.List.Elements.{All-from_get_or, All-get_or}
-use Rattle.std.proofs.lemmas.List.{ext_get_or, get_or-map, get_or-set_other, get_or-set_same, get_or_append_left, get_or_push, get_or_read, length-map, length-set, map-append}
+use Rattle.std.proofs.lemmas.List.Elements.{All-get_or}
+use Rattle.std.proofs.lemmas.List.{get_or-map, get_or-set_other, get_or-set_same, get_or_append_left, get_or_push, get_or_read, length-set, map-append, map-set, set-get_or}
 use Rattle.precedence.specs.inner.lanes.Bits.{has_bit}
 use Rattle.precedence.specs.inner.lanes.Windows.{AreStrips, HasDistance, IsBlockAt, IsStrip, Sees, any_block, of_table, scene, table_of}
-use Rattle.precedence.specs.inner.lanes.Looking.{EndBy, HasAdded, HasBlocks, HasNone, IsGrown, IsJoined, IsLike, IsNext, IsPart, IsPut, IsRowFrom, IsRange, TablesEndBy}
+use Rattle.precedence.specs.inner.lanes.Looking.{EndBy, HasAdded, HasBlocks, HasNone, IsGrown, IsJoined, IsLike, IsNext, IsPart, IsPut, IsRowFrom, IsRange}
 use Rattle.precedence.specs.inner.lanes.Strips.{AreApart}
 use Rattle.precedence.specs.inner.Rows.{is_in_rows, pasts, start_of, LieApart}
 use Rattle.precedence.specs.inner.Between.{codes_in}
@@ -16,12 +14,10 @@ use Rattle.precedence.specs.declared.cones.block_cones.BlockCones.{BlockCones}
 use Rattle.precedence.specs.declared.cones.cone_rows.Row.{Row}
 use Rattle.precedence.specs.declared.lanes.strip.Strip.{Strip}
 use Rattle.precedence.specs.declared.lanes.strips.Sight.{Sight}
+use Rattle.precedence.proofs.bits.Words.{no_bit}
 use Rattle.precedence.proofs.ranges.RowOfCode.{in_this_row, none_above, not_past, row_is, some_codes}
 use Rattle.precedence.proofs.ranges.Starts.{no_less, start_before}
 use Rattle.precedence.proofs.ranges.SameCone.{first_follows}
-
-pub no_bits : (p : ℕ) → has_bit 0 p ≡ false
-no_bits p = ap (λ n. n == 1) (bit_at-zero p)
 
 -- the number of the table for a block's cone
 pub table_read : (b : BlockCones) (id number : ℕ) → id < length (codes_in b) → number ≡ get_or b.tables.now.of_zone.items (get_or b.zones.now id 0) number
@@ -29,6 +25,11 @@ pub table_read : (b : BlockCones) (id number : ℕ) → id < length (codes_in b)
 table_read b id number lt is =
     let zone = All-get_or (λ z. z < length b.tables.now.of_zone.items) b.zones.now id 0 (let each = b.each in omega (arith, each, lt)) b.zoned in
     sym (get_or_read b.tables.now.of_zone.items (get_or b.zones.now id 0) number zone is 0)
+
+pub table_below : (b : BlockCones) (id : ℕ) → id < length (codes_in b) → table_of (scene b) id < length b.tables.now.tables.items
+table_below b id lt =
+    let each = b.each in
+    b.tables.now.below (get_or b.zones.now id 0) 0 (b.zoned id 0 (omega (arith, each, lt)))
 
 -- ---- stretches
 
@@ -88,61 +89,55 @@ module _ (b : BlockCones) (Is : ℕ → Type 0) (from most : ℕ) where
   -- no block comes before the first one
   pub has_none : (id : ℕ) → ((c : ℕ) → c < id → get_or (codes_in b) c 0 < from) → HasBlocks (scene b) Is from most id 0
   has_none id before = record {
-    sound = λ p bit. absurd (false≢true (sym (no_bits p) ∙ bit));
+    sound = λ p bit. absurd (no_bit p bit);
     complete = λ p c lt less at. let code = at.code_is in absurd (omega (arith, before c less, code));
   }
 
-  module _ (id past top bits : ℕ) (range : IsRange (scene b) id past from top bits) where
-    -- a stretch of blocks of this kind
-    pub has_range : (word all : ℕ) → most ≤ top → ((c : ℕ) → id ≤ c → c < past → Is c) → IsJoined word bits all
-        → HasBlocks (scene b) Is from most id word → HasBlocks (scene b) Is from most past all
-    has_range word all le kind joins had = record {
-      sound = λ p bit. old_or_new p bit (has_bit word p) refl;
-      complete = λ p c lt less at. ⊎_elim
-          (λ before. joins.left p (had.complete p c lt before at))
-          (λ later. joins.right p (range.complete p c (omega (arith, lt, le)) later less at.code_is))
-          (cases_lt c id);
-    }
-      where
-        found : (p : ℕ) → has_bit bits p ≡ true → (c : ℕ) × IsBlockAt (scene b) Is (from + p) c
-        found p bit =
-            let at = range.sound p bit in (
-              at.0,
-              record {
-                within = let within = range.within in omega (arith, within, at.2);
-                code_is = at.3;
-                kind = kind at.0 at.1 at.2;
-              },
-            )
+  -- a stretch of blocks of this kind
+  pub has_range : (id past top bits : ℕ) → IsRange (scene b) id past from top bits → (word all : ℕ) → most ≤ top → ((c : ℕ) → id ≤ c → c < past → Is c)
+      → IsJoined word bits all → HasBlocks (scene b) Is from most id word → HasBlocks (scene b) Is from most past all
+  has_range id past top bits range word all le kind joins had = record {
+    sound = λ p bit. old_or_new p bit (has_bit word p) refl;
+    complete = λ p c lt less at. ⊎_elim
+        (λ before. joins.left p (had.complete p c lt before at))
+        (λ later. joins.right p (range.complete p c (omega (arith, lt, le)) later less at.code_is))
+        (cases_lt c id);
+  }
+    where
+      found : (p : ℕ) → has_bit bits p ≡ true → (c : ℕ) × IsBlockAt (scene b) Is (from + p) c
+      found p bit =
+          let at = range.sound p bit in (
+            at.0,
+            record {
+              within = let within = range.within in omega (arith, within, at.2);
+              code_is = at.3;
+              kind = kind at.0 at.1 at.2;
+            },
+          )
 
-        old_or_new : (p : ℕ) → has_bit all p ≡ true → (x : Bool) → has_bit word p ≡ x → (c : ℕ) × IsBlockAt (scene b) Is (from + p) c
-        old_or_new p bit true is = had.sound p is
-        old_or_new p bit false is = found p (joins.either p bit is)
+      old_or_new : (p : ℕ) → has_bit all p ≡ true → (x : Bool) → has_bit word p ≡ x → (c : ℕ) × IsBlockAt (scene b) Is (from + p) c
+      old_or_new p bit true is = had.sound p is
+      old_or_new p bit false is = found p (joins.either p bit is)
 
-    -- a stretch of other blocks
-    pub has_others : (word : ℕ) → ((c : ℕ) → id ≤ c → c < past → Is c → ⊥) → HasBlocks (scene b) Is from most id word
-        → HasBlocks (scene b) Is from most past word
-    has_others word other had = record {
-      sound = had.sound;
-      complete = λ p c lt less at. ⊎_elim
-          (λ before. had.complete p c lt before at)
-          (λ later. absurd (other c later less at.kind))
-          (cases_lt c id);
-    }
+  -- no block from one on, up to another, has one of the codes
+  abbrev pub NoneFrom : (id past : ℕ) → Type 0
+  NoneFrom id past = (p c : ℕ) → id ≤ c → c < past → p < most → IsBlockAt (scene b) Is (from + p) c → ⊥
 
-  -- all blocks from one on are too far, if that block is
-  pub has_all : (id word : ℕ) → (id < length (codes_in b) → from + most ≤ get_or (codes_in b) id 0) → HasBlocks (scene b) Is from most id word
-      → HasBlocks (scene b) Is from most (length (codes_in b)) word
-  has_all id word far had = record {
+  pub has_past : (id past word : ℕ) → NoneFrom id past → HasBlocks (scene b) Is from most id word → HasBlocks (scene b) Is from most past word
+  has_past id past word none had = record {
     sound = had.sound;
     complete = λ p c lt less at. ⊎_elim
         (λ before. had.complete p c lt before at)
-        (λ later.
-        let beyond = no_less (codes_in b) id c b.places.now.rising later less in
-        let code = at.code_is in
-        absurd (omega (arith, far (omega (arith, later, less)), beyond, code, lt)))
+        (λ later. absurd (none p c later less lt at))
         (cases_lt c id);
   }
+
+  -- all blocks from one on are too far, if that block is
+  pub too_far : (id : ℕ) → (id < length (codes_in b) → from + most ≤ get_or (codes_in b) id 0) → NoneFrom id (length (codes_in b))
+  too_far id far p c later less lt at =
+      let beyond = no_less (codes_in b) id c b.places.now.rising later less in
+      let code = at.code_is in
+      omega (arith, far (omega (arith, later, less)), beyond, code, lt)
 
 -- ---- strips
 
@@ -208,7 +203,7 @@ module _ (b : BlockCones) (Is : ℕ → Type 0) (from : ℕ) (strip : Strip) (ba
       where
         nothing_before : IsJoined 0 bits bits
         nothing_before = record {
-          left = λ p bit. absurd (false≢true (sym (no_bits p) ∙ bit));
+          left = λ p bit. absurd (no_bit p bit);
           right = λ p bit. bit;
           either = λ p bit none. bit;
         }
@@ -236,35 +231,45 @@ module _ (b : BlockCones) (Is : ℕ → Type 0) (from : ℕ) (strip : Strip) (ba
     pub grown_more : IsGrown (scene b) Is from past strip base new
     grown_more = ⊎_elim joined_there (λ le. let more = had.more in appended (omega (arith, le, more))) (cases_lt (length base) (length old))
 
-  pub grown_others : (id past bits : ℕ) (new : List Strip) → IsRange (scene b) id past from 128 bits → ((c : ℕ) → id ≤ c → c < past → Is c → ⊥)
-      → IsGrown (scene b) Is from id strip base new → IsGrown (scene b) Is from past strip base new
-  grown_others id past bits new range other had = record {
+  pub grown_past : (id past : ℕ) (new : List Strip) → NoneFrom b Is from (strip.len + 63) id past → IsGrown (scene b) Is from id strip base new
+      → IsGrown (scene b) Is from past strip base new
+  grown_past id past new none had = record {
     more = had.more;
     few = had.few;
     kept = had.kept;
     last = λ s lt. let part = had.last s lt in record {
       like = part.like;
-      blocks = has_others b Is from (strip.len + 63) id past 128 bits range _ other part.blocks;
+      blocks = has_past b Is from (strip.len + 63) id past _ none part.blocks;
     };
-    none = λ same. has_others b Is from (strip.len + 63) id past 128 bits range 0 other (had.none same);
-  }
-
-  pub grown_all : (id : ℕ) (new : List Strip) → (id < length (codes_in b) → from + (strip.len + 63) ≤ get_or (codes_in b) id 0)
-      → IsGrown (scene b) Is from id strip base new → IsGrown (scene b) Is from (length (codes_in b)) strip base new
-  grown_all id new far had = record {
-    more = had.more;
-    few = had.few;
-    kept = had.kept;
-    last = λ s lt. let part = had.last s lt in record {
-      like = part.like;
-      blocks = has_all b Is from (strip.len + 63) id _ far part.blocks;
-    };
-    none = λ same. has_all b Is from (strip.len + 63) id 0 far (had.none same);
+    none = λ same. has_past b Is from (strip.len + 63) id past 0 none (had.none same);
   }
 
 -- ---- distances
 
--- if strips miss no block before a distance, they miss none before the end of the next strip
+-- strips that end by a distance end by a later one
+pub end_later : (at to : ℕ) (strips : List Strip) → at ≤ to → EndBy at strips → EndBy to strips
+end_later at to strips le ends k s lt = omega (arith, ends k s lt, le)
+
+-- a window that sees everything before a distance sees everything before a later one, if there is no block between
+pub sees_all : (b : BlockCones) (own : List Row) (base at to : ℕ) (sight : Sight) → at ≤ to → Sees (scene b) own base at sight → HasNone (scene b) own base at to
+    → Sees (scene b) own base to sight
+sees_all b own base at to sight le had none = record {
+  every = rest any_block sight.all.strips.items had.every;
+  tables = had.tables;
+  each = λ n s lt. rest (of_table (scene b) n) (get_or sight.by_table.items n s).strips.items (had.each n s lt);
+}
+  where
+    rest : (Is : ℕ → Type 0) (strips : List Strip) → AreStrips (scene b) Is own base at strips → AreStrips (scene b) Is own base to strips
+    rest Is strips all = record {
+      each = all.each;
+      ends = end_later at to strips le all.ends;
+      all = λ i e id few lt own_e is. ⊎_elim
+          (λ before. all.all i e id few before own_e is)
+          (λ later. absurd (none i e id few later lt own_e (record { within = is.within; code_is = is.code_is; kind = refl })))
+          (cases_lt e at);
+    }
+
+-- if strips miss no block before the next strip, they miss none before its end
 module _ (b : BlockCones) (own : List Row) (base at : ℕ) (strip : Strip) (next : IsNext (scene b) own base at strip) where
   module _ (Is : ℕ → Type 0) (old new : List Strip) (grown : IsGrown (scene b) Is (base + strip.start) (length (codes_in b)) strip old new) where
     strip_is : (s : Strip) → IsPart (scene b) Is (base + strip.start) (length (codes_in b)) strip s → IsStrip (scene b) Is own base (length (codes_in b)) s
@@ -277,25 +282,30 @@ module _ (b : BlockCones) (own : List Row) (base at : ℕ) (strip : Strip) (next
           complete = λ p id lt less is. part.blocks.complete p id (omega (arith, lt, len)) less (rw start at is);
         }
 
-    strips_grow : AreStrips (scene b) Is own base at old → AreStrips (scene b) Is own base (strip.start + strip.len) new
+    -- each strip is an old one or the last one
+    at_each : (P : Strip → Type 0) (k : ℕ) (d : Strip) → k < length new → (k < length old → P (get_or old k d)) → (length old < length new
+        → P (get_or new (length old) d)) → P (get_or new k d)
+    at_each P k d lt before last = ⊎_elim
+        (λ less. rw (grown.kept k d less) (before less))
+        (λ le.
+        let few = grown.few in
+        let place : length old ≡ k = omega (arith, few, lt, le) in
+        subst (λ (n : ℕ). P (get_or new n d)) place (last (omega (arith, lt, place))))
+        (cases_lt k (length old))
+
+    strips_grow : AreStrips (scene b) Is own base strip.start old → AreStrips (scene b) Is own base (strip.start + strip.len) new
     strips_grow had = record {
-      each = All-from_get_or (IsStrip (scene b) Is own base (length (codes_in b))) new strip (λ k lt. ⊎_elim
-          (λ before. rw (grown.kept k strip before) (All-get_or (IsStrip (scene b) Is own base (length (codes_in b))) old k strip before had.each))
-          (λ last.
-          let few = grown.few in
-          let place : length old ≡ k = omega (arith, few, lt, last) in
-          subst (λ (n : ℕ). IsStrip (scene b) Is own base (length (codes_in b)) (get_or new n strip)) place (strip_is (get_or new (length old) strip) (grown.last strip (omega (arith, lt, place)))))
-          (cases_lt k (length old)));
+      each = λ k d lt. at_each (IsStrip (scene b) Is own base (length (codes_in b))) k d lt (λ less. had.each k d less)
+          (λ some. strip_is (get_or new (length old) d) (grown.last d some));
+      ends = λ k d lt. at_each (λ s. s.start + s.len ≤ strip.start + strip.len) k d lt (λ less. omega (arith, had.ends k d less))
+          (λ some. let like = (grown.last d some).like in omega (arith, like.start, like.len));
       all = λ i e id few lt own_e is. ⊎_elim
           (λ before.
           let found = had.all i e id few before own_e is in
           let more = grown.more in
           (found.0, omega (arith, found.1, more), λ s. rw (grown.kept found.0 s found.1) (found.2 s)))
-          (λ later. ⊎_elim
-          (λ passed. absurd (next.passed i e id few later passed own_e (record { within = is.within; code_is = is.code_is; kind = refl })))
           (λ here. in_last i e id few here lt is)
-          (cases_lt e strip.start))
-          (cases_lt e at);
+          (cases_lt e strip.start);
     }
       where
         in_last : (i e id : ℕ) → i < 64 → strip.start ≤ e → e < strip.start + strip.len → IsBlockAt (scene b) Is (base + i + e) id
@@ -307,63 +317,21 @@ module _ (b : BlockCones) (own : List Row) (base at : ℕ) (strip : Strip) (next
             let none = grown.none (omega (arith, more, le)) in
             let there : base + i + e ≡ base + strip.start + (i + (e - strip.start)) = omega (arith, here) in
             let bit = none.complete (i + (e - strip.start)) id (omega (arith, few, here, lt)) is.within (subst (λ (n : ℕ). IsBlockAt (scene b) Is n id) there is) in
-            absurd (false≢true (sym (no_bits (i + (e - strip.start))) ∙ bit)))
+            absurd (no_bit (i + (e - strip.start)) bit))
             (cases_lt (length old) (length new))
 
-    -- none of them ends later
-    ends_grow : EndBy strip.start old → EndBy (strip.start + strip.len) new
-    ends_grow ends k s lt = ⊎_elim
-        (λ before. let end = ends k s before in omega (arith, end, ap (λ (r : Strip). r.start) (grown.kept k s before), ap (λ (r : Strip). r.len) (grown.kept k s before)))
-        (λ last.
-        let few = grown.few in
-        let place : length old ≡ k = omega (arith, few, lt, last) in
-        let like : IsLike strip (get_or new k s) = subst (λ (n : ℕ). IsLike strip (get_or new n s)) place (grown.last s (omega (arith, lt, place))).like in
-        omega (arith, like.start, like.len))
-        (cases_lt k (length old))
-
-  module _ (old new : Sight) (added : HasAdded (scene b) base strip old new) where
-    pub sees_more : Sees (scene b) own base at old → Sees (scene b) own base (strip.start + strip.len) new
-    sees_more had = record {
-      every = strips_grow any_block old.all.strips.items new.all.strips.items added.all had.every;
-      tables = added.by_table.tables ∙ had.tables;
-      each = λ n s lt.
-          let less : n < length old.by_table.items = let same = added.by_table.tables in omega (arith, lt, same) in
-          strips_grow (of_table (scene b) n) (get_or old.by_table.items n s).strips.items (get_or new.by_table.items n s).strips.items
-          (added.by_table.each n s less) (had.each n s less);
-    }
-
-    pub all_end : EndBy strip.start old.all.strips.items → EndBy (strip.start + strip.len) new.all.strips.items
-    all_end = ends_grow any_block old.all.strips.items new.all.strips.items added.all
-
-    pub tables_end : TablesEndBy strip.start old.by_table.items → TablesEndBy (strip.start + strip.len) new.by_table.items
-    tables_end ends n s lt =
-        let less : n < length old.by_table.items = let same = added.by_table.tables in omega (arith, lt, same) in
-        ends_grow (of_table (scene b) n) (get_or old.by_table.items n s).strips.items (get_or new.by_table.items n s).strips.items
-        (added.by_table.each n s less) (ends n s less)
-
--- strips that end by a distance end by a later one
-pub end_later : (at to : ℕ) (strips : List Strip) → at ≤ to → EndBy at strips → EndBy to strips
-end_later at to strips le ends k s lt = omega (arith, ends k s lt, le)
-
--- ---- distances without blocks
-
--- a window that sees everything before a distance sees everything before a later one, if there is no block between
-pub sees_all : (b : BlockCones) (own : List Row) (base at to : ℕ) (sight : Sight) → Sees (scene b) own base at sight → HasNone (scene b) own base at to
-    → Sees (scene b) own base to sight
-sees_all b own base at to sight had none = record {
-  every = rest any_block sight.all.strips.items had.every;
-  tables = had.tables;
-  each = λ n s lt. rest (of_table (scene b) n) (get_or sight.by_table.items n s).strips.items (had.each n s lt);
-}
-  where
-    rest : (Is : ℕ → Type 0) (strips : List Strip) → AreStrips (scene b) Is own base at strips → AreStrips (scene b) Is own base to strips
-    rest Is strips all = record {
-      each = all.each;
-      all = λ i e id few lt own_e is. ⊎_elim
-          (λ before. all.all i e id few before own_e is)
-          (λ later. absurd (none i e id few later lt own_e (record { within = is.within; code_is = is.code_is; kind = refl })))
-          (cases_lt e at);
-    }
+  pub sees_more : (old new : Sight) → HasAdded (scene b) base strip old new → Sees (scene b) own base at old
+      → Sees (scene b) own base (strip.start + strip.len) new
+  sees_more old new added had =
+      let there = sees_all b own base at strip.start old next.later had next.passed in
+      record {
+        every = strips_grow any_block old.all.strips.items new.all.strips.items added.all there.every;
+        tables = added.by_table.tables ∙ had.tables;
+        each = λ n s lt.
+            let less : n < length old.by_table.items = let same = added.by_table.tables in omega (arith, lt, same) in
+            strips_grow (of_table (scene b) n) (get_or old.by_table.items n s).strips.items (get_or new.by_table.items n s).strips.items
+            (added.by_table.each n s less) (there.each n s less);
+      }
 
 pub none_join : (b : BlockCones) (own : List Row) (base at mid to : ℕ) → HasNone (scene b) own base at mid → HasNone (scene b) own base mid to → HasNone (scene b) own base at to
 none_join b own base at mid to low up i e id few le lt own_e is = ⊎_elim
@@ -421,25 +389,6 @@ starts_of strips = map (λ (s : Strip). s.start) strips
 
 pub push_each : (starts : List ℕ) (strips : List Strip) (s : Strip) → starts ≡ starts_of strips → starts ++ s.start ∷ [] ≡ starts_of (strips ++ s ∷ [])
 push_each starts strips s each = ap (λ xs. xs ++ s.start ∷ []) each ∙ sym (map-append (λ (t : Strip). t.start) strips (s ∷ []))
-
-pub push_rising : (xs : List ℕ) (y : ℕ) → IsStrictlyIncreasing xs → ((k : ℕ) → k < length xs → get_or xs k 0 < y) → IsStrictlyIncreasing (xs ++ y ∷ [])
-push_rising xs y rising below k lt =
-    let long = length-append xs (y ∷ []) in
-    let here = get_or_append_left xs (y ∷ []) 0 k (omega (arith, lt, long)) in
-    ⊎_elim
-    (λ before. omega (arith, rising k before, here, get_or_append_left xs (y ∷ []) 0 (k + 1) before))
-    (λ last. omega (arith, below k (omega (arith, lt, long)), here, get_or_push xs y 0 (k + 1) (omega (arith, last, lt, long))))
-    (cases_lt (k + 1) (length xs))
-
--- the strips' starts are below the start of a later strip
-pub starts_below : (starts : List ℕ) (strips : List Strip) (start : ℕ) → starts ≡ starts_of strips → EndBy start strips
-    → (k : ℕ) → k < length starts → get_or starts k 0 < start
-starts_below starts [] start each ends k lt = absurd (omega (arith, lt, ap length each))
-starts_below starts (one ∷ strips) start each ends k lt =
-    let less : k < length (one ∷ strips) = omega (arith, lt, ap length each, length-map (one ∷ strips) (λ (t : Strip). t.start)) in
-    let at = ap (λ xs. get_or xs k 0) each ∙ get_or-map (λ (t : Strip). t.start) (one ∷ strips) k one 0 less in
-    let some = (get_or (one ∷ strips) k one).some in
-    omega (arith, at, ends k one less, some)
 
 module _ (old : List Strip) (s : Strip) where
   abbrev pushed : List Strip
@@ -501,11 +450,11 @@ module _ (old : List Strip) (s : Strip) (k : ℕ) (within : k < length old) (rea
       (cases_eq j k)
 
   pub set_each : starts_of old ≡ starts_of written
-  set_each = ext_get_or 0 (starts_of old) (starts_of written) (length-map old (λ (t : Strip). t.start) ∙ sym as_long ∙ sym (length-map written (λ (t : Strip). t.start)))
-      (λ i lt.
-      let less : i < length old = omega (arith, lt, length-map old (λ (t : Strip). t.start)) in
-      get_or-map (λ (t : Strip). t.start) old i s 0 less ∙ sym (start_at i s less).start
-      ∙ sym (get_or-map (λ (t : Strip). t.start) written i s 0 (omega (arith, less, as_long))))
+  set_each = sym (
+      map-set (λ (t : Strip). t.start) old k s
+      ∙ ap (set (starts_of old) k) (start ∙ ap (λ (t : Strip). t.start) is_read ∙ sym (get_or-map (λ (t : Strip). t.start) old k read 0 within))
+      ∙ set-get_or (starts_of old) k 0
+      )
 
   pub set_apart : AreApart old → AreApart written
   set_apart apart i j d less lt =

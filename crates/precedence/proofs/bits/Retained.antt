@@ -1,9 +1,10 @@
 -- The reduced list by the codes and the cones of the blocks.
-use Rattle.std.proofs.Common.{◌≡◌, ℕ, ◌^◌, ◌<◌, ◌||◌, Bool, true, false, not, List, [], ◌∷◌, filter, length, get_or, sym, ap, ◌∙◌, arith, ⊎_elim}
-use Rattle.std.specs.List.{list_any}
-use Rattle.std.proofs.lemmas.Bool.{cases_Bool}
+use Rattle.std.proofs.Common.{◌≡◌, ℕ, ◌^◌, ◌<◌, Bool, true, false, not, List, [], filter, length, get_or, sym, ap, ◌∙◌, arith, ⊎_elim}
+use Rattle.std.specs.List.{range_with_len}
+use Rattle.std.specs.List.Sorted.{IsStrictlyIncreasing}
+use Rattle.std.proofs.lemmas.Bool.{both_ways, cases_Bool, cases_lt}
 use Rattle.std.proofs.lemmas.List.{get_or_default}
-use Rattle.std.proofs.lemmas.List.Folds.{list_any_at}
+use Rattle.std.proofs.lemmas.List.Folds.{Any-from_list_any, list_any_at}
 use Rattle.std.proofs.lemmas.List.Kept.{IsStrictlyIncreasing-filter}
 use Rattle.precedence.specs.PredecessorOfAny.{is_predecessor_of_any}
 use Rattle.precedence.specs.IdRanges.{is_in}
@@ -15,19 +16,20 @@ use Rattle.precedence.specs.inner.Rows.{is_in_rows}
 use Rattle.precedence.specs.declared.cones.cone_rows.Row.{Row}
 use Rattle.precedence.specs.declared.lists.lazy_preds.LazyPreds.TheInside.{Inside}
 use Rattle.precedence.proofs.AllLists.{few_found, found_at, lazy_length}
-use Rattle.precedence.proofs.Listed.{first_in, in_right, ids_in_rows_rise, ids_in_rows_within}
 use Rattle.precedence.proofs.Members.{contains_true, kept_from, kept_in, one_list, true_contains}
-use Rattle.precedence.proofs.PositionsWhere.{exact_where}
+use Rattle.precedence.proofs.LawFacts.{range_rises}
+use Rattle.precedence.proofs.PositionsWhere.{exact_nowhere, exact_where, where_at}
 
--- if some number of a list passes a test, a member does
-any_some : (test : ℕ → Bool) (xs : List ℕ) → list_any test xs ≡ true → (d : ℕ) × (is_in xs d ≡ true) × (test d ≡ true)
-any_some test [] h = absurd (let no : ⊥ = cc in no)
-any_some test (x ∷ xs) h = ⊎_elim
-    (λ passes. (x, first_in x xs, passes))
-    (λ fails.
-    let w = any_some test xs (sym (ap (λ b. b || list_any test xs) fails) ∙ h) in
-    (w.0, in_right (x ∷ []) xs w.0 w.1, w.2))
-    (cases_Bool (test x))
+ids_in_rows_within : (from : ℕ) (rows : List Row) (codes : List ℕ) (x : ℕ) → is_in (ids_in_rows from rows codes) x ≡ true → x < length codes
+ids_in_rows_within from rows codes x h = ⊎_elim
+    (λ lt. lt)
+    (λ past. absurd (both_ways _ (exact_nowhere (is_in_rows from rows) x codes 0 past) h))
+    (cases_lt x (length codes))
+
+ids_in_rows_rise : (from : ℕ) (rows : List Row) (codes : List ℕ) → IsStrictlyIncreasing (ids_in_rows from rows codes)
+ids_in_rows_rise from rows codes =
+    rw (where_at (is_in_rows from rows) 0 codes)
+    (IsStrictlyIncreasing-filter (λ k. is_in_rows from rows (get_or codes k 0)) (range_with_len 0 (length codes)) (range_rises 0 (length codes)))
 
 module _ (f : Inside) (keeps : IsLazyPreds f) (lists : List (List ℕ)) (is : lazy_lists_of f ≡ lists) (block : ℕ) (within : block < length lists) where
   abbrev codes : List ℕ
@@ -75,13 +77,14 @@ module _ (f : Inside) (keeps : IsLazyPreds f) (lists : List (List ℕ)) (is : la
 
   mid_is : (c : ℕ) → c < length codes → is_predecessor_of_any lists list c ≡ true → (d : ℕ) × IsBetween codes cone block c d
   mid_is c there some =
-      let w = any_some (λ d. is_in (get_or lists d []) c) list some in
-      let lt = in_codes w.0 w.1 in (
-        w.0,
+      let w = Any-from_list_any (λ d. is_in (get_or lists d []) c) list some in
+      let own = contains_true list w.1 (w.0, w.2, w.3) in
+      let lt = in_codes w.1 own in (
+        w.1,
         record {
           within = lt;
-          above = sym (list_of block w.0 here lt) ∙ w.1;
-          below = sym (list_of w.0 c lt there) ∙ w.2;
+          above = sym (list_of block w.1 here lt) ∙ own;
+          below = sym (list_of w.1 c lt there) ∙ w.4;
         },
       )
 
@@ -92,7 +95,7 @@ module _ (f : Inside) (keeps : IsLazyPreds f) (lists : List (List ℕ)) (is : la
   retained_is ids r = one_list ids (filter free list) r.rising
       (IsStrictlyIncreasing-filter free list (rw (list_is block here) (ids_in_rows_rise (get_or codes block 0) (cone block) codes)))
       (λ c has.
-      let s = r.sound c (contains_true ids c has) in
+      let s = r.sound c has in
       kept_in free list c (true_contains list c (list_of block c here s.0 ∙ s.1))
       (⊎_elim (λ yes. absurd (let mid = mid_is c s.0 yes in s.2 mid.0 mid.1)) (λ no. ap not no) (cases_Bool (is_predecessor_of_any lists list c))))
       (λ c has.
@@ -100,7 +103,7 @@ module _ (f : Inside) (keeps : IsLazyPreds f) (lists : List (List ℕ)) (is : la
       let own = contains_true list c w.0 in
       let there = in_codes c own in
       ⊎_elim
-      (λ found. true_contains ids c found)
+      (λ found. found)
       (λ mid.
       let yes = any_is c mid.0 there mid.1 in
       let both : false ≡ true = sym (ap not yes) ∙ w.1 in

@@ -1,64 +1,36 @@
 -- What the lanes of a window retain, strip by strip and distance by distance.
 use Rattle.std.proofs.Common.{◌≡◌, ℕ, ◌+◌, ◌-◌, ◌<◌, ◌≤◌, ◌&&◌, ◌++◌, ◌∷◌, [], true, false, max, List, All, length, get_or, map, inl, inr, ◌⊎◌, refl, sym, ap, subst, ◌∙◌, arith, ⊎_elim}
 use Rattle.std.specs.List.Sorted.{IsStrictlyIncreasing}
-use Rattle.std.proofs.lemmas.Bool.{and_from, and_parts, both_ways, cases_lt, cases_order, eqb-true}
-use Rattle.std.proofs.lemmas.List.{get_or_append_left, get_or_default, get_or-map, get_or_push, length-append, length-map}
-use Rattle.std.proofs.lemmas.Nat.Bits.{bit_at-zero}
+use Rattle.std.proofs.lemmas.Bool.{and_from, and_parts, both_ways, cases_lt, cases_order}
+use Rattle.std.proofs.lemmas.List.{get_or_append_left, get_or_default, get_or_push, length-append, map-append}
+use Rattle.std.proofs.lemmas.List.Elements.{All-map, All-push}
 use Rattle.precedence.specs.inner.lanes.Bits.{has_bit}
 use Rattle.precedence.specs.inner.lanes.Windows.{AreFound, AreFoundBy, Drops, HasDistance, IsFoundFor, IsRetained, MayDrop, MeetsAny, SeesAt}
 use Rattle.precedence.specs.declared.cones.cone_table.ConeTable.{ConeTable}
 use Rattle.precedence.specs.declared.lanes.strip.Strip.{Strip}
 use Rattle.precedence.specs.declared.lanes.strips.Found.{Found}
 use Rattle.precedence.specs.declared.lanes.strips.Sight.{Sight}
-
-pub no_bit : (i : ℕ) → has_bit 0 i ≡ true → ⊥
-no_bit i h = let zero = bit_at-zero i in let one = eqb-true _ _ h in absurd (omega (arith, zero, one))
+use Rattle.precedence.proofs.bits.Words.{no_bit}
+use Rattle.precedence.proofs.Members.{rising_push}
 
 -- ---- lanes dropped in turn
 
-module _ (Why : ℕ → Type 0) where
-  pub drops_both : (there some rest : ℕ) → MayDrop Why there some → Drops Why some rest → Drops Why there rest
-  drops_both there some rest first then = record {
-    may = record {
-      among = λ i has. first.among i (then.may.among i has);
-      dropped = λ i has. ⊎_elim (λ kept. then.may.dropped i kept) (λ why. inr why) (first.dropped i has);
-    };
-    none = then.none;
-  }
+pub drops_both : (Why : ℕ → Type 0) (there some rest : ℕ) → MayDrop Why there some → Drops Why some rest → Drops Why there rest
+drops_both Why there some rest first then = record {
+  may = record {
+    among = λ i has. first.among i (then.may.among i has);
+    dropped = λ i has. ⊎_elim (λ kept. then.may.dropped i kept) (λ why. inr why) (first.dropped i has);
+  };
+  none = then.none;
+}
 
 -- ---- what is found
 
--- a longer list meets what all its elements meet
-at_push : {X : Type 0} (P : X → Type 0) (xs : List X) (x d : X) (k : ℕ) → k < length (xs ++ x ∷ []) → (k < length xs → P (get_or xs k d)) → P x
-    → P (get_or (xs ++ x ∷ []) k d)
-at_push P xs x d k lt old new = ⊎_elim
-    (λ less. subst P (sym (get_or_append_left xs (x ∷ []) d k less)) (old less))
-    (λ le.
-    let last : length xs ≡ k = omega (arith, length-append xs (x ∷ []), lt, le) in
-    subst P (sym (get_or_push xs x d k last)) new)
-    (cases_lt k (length xs))
-
 distances_rise : (found : List Found) (f : Found) → IsStrictlyIncreasing (map (λ (g : Found). g.distance) found)
     → All (λ (g : Found). g.distance < f.distance) found → IsStrictlyIncreasing (map (λ (g : Found). g.distance) (found ++ f ∷ []))
-distances_rise found f rising below k lt =
-    let all = found ++ f ∷ [] in
-    let long = length-append found (f ∷ []) in
-    let lt_all : k + 1 < length all = omega (arith, lt, length-map all (λ (g : Found). g.distance)) in
-    let one = get_or-map (λ (g : Found). g.distance) all k f 0 (omega arith) in
-    let two = get_or-map (λ (g : Found). g.distance) all (k + 1) f 0 lt_all in
-    let here = ap (λ (g : Found). g.distance) (get_or_append_left found (f ∷ []) f k (omega arith)) in
-    ⊎_elim
-    (λ less.
-    let next = ap (λ (g : Found). g.distance) (get_or_append_left found (f ∷ []) f (k + 1) less) in
-    let old = rising k (omega (arith, less, length-map found (λ (g : Found). g.distance))) in
-    let old_one = get_or-map (λ (g : Found). g.distance) found k f 0 (omega arith) in
-    let old_two = get_or-map (λ (g : Found). g.distance) found (k + 1) f 0 less in
-    omega (arith, one, two, here, next, old, old_one, old_two))
-    (λ le.
-    let last : length found ≡ k + 1 = omega arith in
-    let next = ap (λ (g : Found). g.distance) (get_or_push found f f (k + 1) last) in
-    omega (arith, one, two, here, next, below k f (omega arith)))
-    (cases_lt (k + 1) (length found))
+distances_rise found f rising below =
+    rw (map-append (λ (g : Found). g.distance) found (f ∷ []))
+    (rising_push (map (λ (g : Found). g.distance) found) f.distance rising (All-map (λ d. d < f.distance) (λ (g : Found). g.distance) found below))
 
 found_push : (found : List Found) (f : Found) (i distance : ℕ) → IsFoundFor found i distance → IsFoundFor (found ++ f ∷ []) i distance
 found_push found f i distance has =
@@ -182,9 +154,9 @@ module _ (tables : List ConeTable) (sight : Sight) (lanes : ℕ) where
       pub found_these : (f : Found) → f.distance ≡ distance → f.lanes ≡ rest → AreFound tables sight lanes (distance + 1) (found ++ f ∷ [])
       found_these f at_distance lanes_are = record {
         rising = distances_rise found f h.rising (λ k d lt. omega (arith, h.below k d lt));
-        below = λ k d lt. at_push (λ (x : Found). x.distance < distance + 1) found f d k lt (λ less. omega (arith, h.below k d less)) (omega arith);
-        sound = λ k i g lt. at_push (λ (x : Found). has_bit x.lanes i ≡ true → IsRetained tables sight lanes i x.distance) found f g k lt
-            (λ less. h.sound k i g less) (retained f i at_distance lanes_are);
+        below = All-push (λ (x : Found). x.distance < distance + 1) found f (λ k d less. omega (arith, h.below k d less)) (omega arith);
+        sound = λ k i g lt. All-push (λ (x : Found). has_bit x.lanes i ≡ true → IsRetained tables sight lanes i x.distance) found f
+            (λ k g less. h.sound k i g less) (retained f i at_distance lanes_are) k g lt;
         complete = λ j i d t lt in' lane sees. ⊎_elim
             (λ less. ⊎_elim (λ old. inl (found_push found f i d old)) (λ between. inr between) (h.complete j i d t less in' lane sees))
             (λ le.

@@ -1,13 +1,13 @@
 -- What the lanes of a window retain, by blocks and by identifiers.
-use Rattle.std.proofs.Common.{◌≡◌, ℕ, ◌+◌, ◌-◌, ◌^◌, ◌<◌, ◌≤◌, ◌||◌, ◌++◌, ◌∷◌, [], true, false, List, All, length, get_or, map, nat_le, nat_lt, slice_set, inl, inr, refl, sym, ap, subst, ◌∙◌, arith, ⊎_elim}
+use Rattle.std.proofs.Common.{◌≡◌, ℕ, ◌+◌, ◌-◌, ◌^◌, ◌<◌, ◌≤◌, ◌||◌, ◌++◌, ◌∷◌, [], true, false, List, Contains, length, get_or, map, nat_le, nat_lt, slice_set, inl, inr, refl, sym, ap, subst, ◌∙◌, arith, ⊎_elim}
 use Rattle.std.specs.List.Sorted.{IsStrictlyIncreasing}
-use Rattle.std.proofs.lemmas.Bool.{and_parts, both_ways, cases_eq, cases_lt, cases_order, leb-true, ltb-true, or_cases}
+use Rattle.std.proofs.lemmas.Bool.{and_parts, both_ways, cases_eq, cases_lt, leb-true, ltb-true, or_cases}
 use Rattle.std.proofs.lemmas.Bool.Decides.{nat_tests}
 use Rattle.std.proofs.lemmas.List.{get_or_default, get_or-map, get_or-set_other, get_or-set_same, length-map}
 use Rattle.std.proofs.Math.ListN.{length-set}
+use Rattle.std.proofs.lemmas.List.Elements.{Contains-append_left, Contains-get_or, Contains-push, Contains-push_cases}
 use Rattle.std.proofs.lemmas.List.Kept.{AllPairs-from_increasing}
 use Rattle.std.proofs.lemmas.Option.{slice_get-get_or}
-use Rattle.precedence.specs.IdRanges.{is_in}
 use Rattle.precedence.specs.inner.lanes.Bits.{has_bit}
 use Rattle.precedence.specs.inner.lanes.Windows.{any_block, cones_of, of_table, rows_of, scene, table_of, AreFound, AreRetained, AreStrips, AreWindows, HasBetween, HasLane, IsBlockAt, IsLane, IsRetained, IsWindow, MeetsAny, Scene, Sees, SeesAt}
 use Rattle.precedence.specs.inner.Rows.{is_in_row, is_in_rows, start_of}
@@ -21,9 +21,11 @@ use Rattle.precedence.specs.declared.lanes.strips.Found.{Found}
 use Rattle.precedence.specs.declared.lanes.strips.Sight.{Sight}
 use Rattle.precedence.specs.declared.lanes.strips.Window.{Window}
 use Rattle.precedence.specs.declared.lanes.strips.Windows.{Windows}
-use Rattle.precedence.proofs.bits.Serving.{no_bit}
-use Rattle.precedence.proofs.Listed.{first_in, in_left, in_right, push_cases, rising_push}
-use Rattle.precedence.proofs.ranges.Starts.{from_start, no_less, start_before}
+use Rattle.precedence.proofs.bits.Looking.{table_below}
+use Rattle.precedence.proofs.bits.Words.{no_bit}
+use Rattle.precedence.proofs.Members.{rising_push, some_of}
+use Rattle.precedence.proofs.ranges.SameCone.{one_code, start_at}
+use Rattle.precedence.proofs.ranges.Starts.{no_less}
 
 -- ---- rows by their distances
 
@@ -57,24 +59,8 @@ at_distance from c e rows at h = ap (λ n. is_in_rows from rows n) at ∙ rows_f
 
 -- ---- blocks between
 
-some_of : {X : Type 0} (xs : List X) (k : ℕ) → k < length xs → X
-some_of [] k lt = absurd (omega arith)
-some_of (x ∷ xs) k lt = x
-
 block_at : (b : Scene) (Is : ℕ → Type 0) (code other id : ℕ) → code ≡ other → IsBlockAt b Is code id → IsBlockAt b Is other id
 block_at b Is code other id same at = record { within = at.within; code_is = at.code_is ∙ same; kind = at.kind }
-
--- every table number is in range
-pub record HasNumbers (b : Scene) : Type 0 where
-  pub each : length b.zones ≡ length b.codes
-  pub zoned : All (λ z. z < length b.of_zone) b.zones
-  pub below : All (λ t. t < length b.tables) b.of_zone
-
-pub numbers_of : (cones : BlockCones) → HasNumbers (scene cones)
-numbers_of cones = record { each = cones.each; zoned = cones.zoned; below = cones.tables.now.below }
-
-pub table_below : (b : Scene) → HasNumbers b → (id : ℕ) → id < length b.codes → table_of b id < length b.tables
-table_below b h id lt = h.below (get_or b.zones id 0) 0 (h.zoned id 0 (omega (arith, h.each)))
 
 module _ (b : Scene) (Is : ℕ → Type 0) (own : List Row) (base at : ℕ) (strips : List Strip) (are : AreStrips b Is own base at strips) where
   seen_there : (k i e : ℕ) (s : Strip) → k < length strips → SeesAt (get_or strips k s) i e
@@ -101,25 +87,30 @@ module _ (b : Scene) (Is : ℕ → Type 0) (own : List Row) (base at : ℕ) (str
             },
       )
 
-module _ (b : Scene) (own : List Row) (base : ℕ) (sight : Sight) (sees : Sees b own base (10 ^ 15) sight) (numbers : HasNumbers b) (i : ℕ) where
+module _ (cones : BlockCones) (own : List Row) (base : ℕ) (sight : Sight) (sees : Sees (scene cones) own base (10 ^ 15) sight) (i : ℕ) where
+  abbrev b : Scene
+  b = scene cones
+
   rows_are : (n : ℕ) (t : ConeTable) → n < length b.tables → rows_of b n ≡ (get_or b.tables n t).rows.items
   rows_are n t lt = ap rows_of_table (slice_get-get_or b.tables n t lt)
 
   -- a lane that sees a block from which the distance is in its cone has a block between
   meets_between : (distance : ℕ) → MeetsAny b.tables sight.by_table.items distance i → HasBetween b own (base + i) distance
-  meets_between distance m =
-      let n = m.0 in
-      let lt : n < length sight.by_table.items = omega (arith, m.1, sees.tables) in
-      let t = some_of b.tables n m.1 in
+  meets_between distance (n, (in_tables, meets)) =
+      let lt : n < length sight.by_table.items = omega (arith, in_tables, sees.tables) in
+      let t = some_of b.tables n in_tables in
       let s = some_of sight.by_table.items n lt in
       let strips = (get_or sight.by_table.items n s).strips.items in
-      let w = m.2 t s in
-      let met = w.3 (some_of strips w.0 w.1) in
-      let there = seen_there b (of_table b n) own base (10 ^ 15) strips (sees.each n s lt) w.0 i w.2 (some_of strips w.0 w.1) w.1 met.sees in (
-        w.2,
+      let w = meets t s in
+      let at = w.1 in
+      let e = at.1 in
+      let strip = some_of strips w.0 at.0 in
+      let met = at.2 strip in
+      let there = seen_there b (of_table b n) own base (10 ^ 15) strips (sees.each n s lt) w.0 i e strip at.0 met.sees in (
+        e,
         n,
         there.1.0,
-        record { above = there.0; at = there.1.1; lower = met.lower; below = ap (λ rows. is_in_rows 0 rows (distance - w.2)) (rows_are n t m.1) ∙ met.below },
+        record { above = there.0; at = there.1.1; lower = met.lower; below = ap (λ rows. is_in_rows 0 rows (distance - e)) (rows_are n t in_tables) ∙ met.below },
       )
 
   between_meets : i < 64 → (distance : ℕ) → HasBetween b own (base + i) distance → MeetsAny b.tables sight.by_table.items distance i
@@ -128,23 +119,27 @@ module _ (b : Scene) (own : List Row) (base : ℕ) (sight : Sight) (sees : Sees 
       let n = w.1 in
       let id = w.2 in
       let h = w.3 in
-      let low = table_below b numbers id h.at.within in
+      let low = table_below cones id h.at.within in
       let number : n < length b.tables = omega (arith, low, h.at.kind) in (
         n,
-        number,
-        λ t s.
-            let strips = (get_or sight.by_table.items n s).strips.items in
-            let there = there_seen b (of_table b n) own base (10 ^ 15) strips (sees.each n s (omega (arith, number, sees.tables))) i e id few
-            (small_in_rows own e h.above) h.above h.at in (
-              there.0,
-              there.1,
-              e,
-              λ strip. record {
-                sees = there.2 strip;
-                lower = h.lower;
-                below = ap (λ rows. is_in_rows 0 rows (distance - e)) (sym (rows_are n t number)) ∙ h.below;
-              },
-            ),
+        (
+          number,
+          λ t s.
+              let strips = (get_or sight.by_table.items n s).strips.items in
+              let there = there_seen b (of_table b n) own base (10 ^ 15) strips (sees.each n s (omega (arith, number, sees.tables))) i e id few
+              (small_in_rows own e h.above) h.above h.at in (
+                there.0,
+                (
+                  there.1,
+                  e,
+                  λ strip. record {
+                    sees = there.2 strip;
+                    lower = h.lower;
+                    below = ap (λ rows. is_in_rows 0 rows (distance - e)) (sym (rows_are n t number)) ∙ h.below;
+                  },
+                ),
+              ),
+        ),
       )
 
   -- the result for the lane is the reduced list of its block
@@ -177,10 +172,10 @@ module _ (b : Scene) (own : List Row) (base : ℕ) (sight : Sight) (sees : Sees 
 pub no_window : (b : Scene) (number : ℕ) (w : Window) → w.lanes ≡ 0 → IsWindow b number w
 no_window b number w none = record { lanes = λ i has few. absurd (no_bit i (subst (λ n. has_bit n i ≡ true) none has)) }
 
-pub window_of : (b : Scene) (number : ℕ) (w : Window) (sight : Sight) → Sees b (rows_of b number) w.base (10 ^ 15) sight → HasNumbers b
-    → AreFound b.tables sight w.lanes (10 ^ 15) w.found.items → IsWindow b number w
-window_of b number w sight sees numbers are = record {
-  lanes = λ i has few. lane b (rows_of b number) w.base sight sees numbers i w.lanes w.found.items are has few;
+pub window_of : (cones : BlockCones) (number : ℕ) (w : Window) (sight : Sight) → Sees (scene cones) (rows_of (scene cones) number) w.base (10 ^ 15) sight
+    → AreFound cones.tables.now.tables.items sight w.lanes (10 ^ 15) w.found.items → IsWindow (scene cones) number w
+window_of cones number w sight sees are = record {
+  lanes = λ i has few. lane cones (rows_of (scene cones) number) w.base sight sees i w.lanes w.found.items are has few;
 }
 
 -- windows with one replaced
@@ -212,27 +207,6 @@ lane_of b w id window has =
 
 -- ---- the identifiers that a lane retains
 
--- the index of a code of the list
-start_is : (t k : ℕ) (cs : List ℕ) → IsStrictlyIncreasing cs → k < length cs → get_or cs k 0 ≡ t → start_of t cs ≡ k
-start_is t k cs rising lt is = ⊎_elim
-    (λ less. absurd (omega (
-      arith,
-      from_start t (start_of t cs) cs rising (omega arith) (omega arith),
-      AllPairs-from_increasing cs rising (start_of t cs) k 0 less lt,
-    )))
-    (λ le. omega (arith, start_before t k cs lt (omega arith)))
-    (cases_lt (start_of t cs) k)
-
--- equal codes have equal identifiers
-same_id : (cs : List ℕ) (c d : ℕ) → IsStrictlyIncreasing cs → c < length cs → d < length cs → get_or cs c 0 ≡ get_or cs d 0 → c ≡ d
-same_id cs c d rising low up same = ⊎_elim
-    (λ is. is)
-    (λ other. absurd (⊎_elim
-    (λ less. omega (arith, AllPairs-from_increasing cs rising c d 0 less up))
-    (λ more. omega (arith, AllPairs-from_increasing cs rising d c 0 more low))
-    other))
-    (cases_order c d)
-
 -- the identifier at index j of the results for the lane
 pub record IsOf (codes : List ℕ) (from lane : ℕ) (found : List Found) (j c : ℕ) : Type 0 where
   pub within : c < length codes
@@ -242,9 +216,9 @@ pub record IsOf (codes : List ℕ) (from lane : ℕ) (found : List Found) (j c :
 -- the identifiers of the first k results for the lane
 pub record AreListed (codes : List ℕ) (from lane k : ℕ) (found : List Found) (ids : List ℕ) : Type 0 where
   pub rising : IsStrictlyIncreasing ids
-  pub sound : (c : ℕ) → is_in ids c ≡ true → (j : ℕ) × (j < k) × IsOf codes from lane found j c
+  pub sound : (c : ℕ) → Contains ids c → (j : ℕ) × (j < k) × IsOf codes from lane found j c
   pub complete : (j : ℕ) (f : Found) → j < k → j < length found → has_bit (get_or found j f).lanes lane ≡ true
-      → (c : ℕ) × (is_in ids c ≡ true) × IsOf codes from lane found j c
+      → (c : ℕ) × Contains ids c × IsOf codes from lane found j c
 
 module _ (codes : List ℕ) (rises : IsStrictlyIncreasing codes) (from lane : ℕ) (found : List Found)
     (rising : IsStrictlyIncreasing (map (λ (f : Found). f.distance) found)) where
@@ -269,16 +243,16 @@ module _ (codes : List ℕ) (rises : IsStrictlyIncreasing codes) (from lane : �
     -- the lane retains the next block
     pub listed_push : (id : ℕ) → IsOf codes from lane found k id → AreListed codes from lane (k + 1) found (ids ++ id ∷ [])
     listed_push id of = record {
-      rising = rising_push ids id h.rising (λ c has. before c (h.sound c has));
+      rising = rising_push ids id h.rising (λ n d lt. before _ (h.sound _ (Contains-get_or ids n d lt)));
       sound = λ c has. ⊎_elim
           (λ old. let w = h.sound c old in (w.0, (let lt = w.1 in omega (arith, lt)), w.2))
           (λ new. (k, omega arith, subst (λ n. IsOf codes from lane found k n) new of))
-          (push_cases ids id c has);
+          (Contains-push_cases ids id c has);
       complete = λ j f lt in' bit. ⊎_elim
-          (λ less. let w = h.complete j f less in' bit in (w.0, in_left ids (id ∷ []) w.0 w.1, w.2))
+          (λ less. let w = h.complete j f less in' bit in (w.0, Contains-append_left ids (id ∷ []) w.0 w.1, w.2))
           (λ le.
           let same : k ≡ j = omega arith in
-          (id, in_right ids (id ∷ []) id (first_in id []), subst (λ n. IsOf codes from lane found n id) same of))
+          (id, Contains-push ids id, subst (λ n. IsOf codes from lane found n id) same of))
           (cases_lt j k);
     }
       where
@@ -357,8 +331,8 @@ module _ (b : Scene) (rises : IsStrictlyIncreasing b.codes) (id : ℕ) where
         let w = h.complete there.0 f there.1 there.1 (there.2 f).1 in
         let one = w.2.code f in
         let two = (there.2 f).0 in
-        let same = same_id b.codes w.0 c rises w.2.within lt (omega (arith, one, two, at)) in
-        inl (subst (λ n. is_in ids n ≡ true) same w.1))
+        let same = one_code b.codes w.0 c rises w.2.within lt (omega (arith, one, two, at)) in
+        inl (subst (λ n. Contains ids n) same w.1))
         (λ between. inr (between_if_has_between c e at between))
         (is.complete e c (distance_of from (get_or b.codes c 0) e own at above) (record { within = lt; code_is = at; kind = refl }));
   }
@@ -371,7 +345,7 @@ module _ (b : Scene) (rises : IsStrictlyIncreasing b.codes) (id : ℕ) where
       let here : (g : Found) → get_or found k g ≡ f = λ g. get_or_default found k g f lt ∙ sym at in
       let w = is.sound f.distance (k, lt, λ g. (ap (λ (x : Found). x.distance) (here g), ap (λ (x : Found). has_bit x.lanes lane) (here g) ∙ bit)) in
       let block = w.1.1 in
-      let place = start_is (from + f.distance) w.1.0 b.codes rises block.within block.code_is in (
+      let place = start_at b.codes w.1.0 rises block.within (from + f.distance) block.code_is in (
         small_in_rows own f.distance w.0,
         subst (λ n. IsOf b.codes from lane found k n) (sym place) (record {
           within = block.within;

@@ -93,6 +93,9 @@ none_below n i fits below = ⊎_elim
     (λ none. let zero : n ≡ 0 = omega (arith, none) in ap (λ m. has_bit m i) zero ∙ ap (λ x. x == 1) (bit_at-zero i))
     (cases_lt 0 n)
 
+pub no_bit : (i : ℕ) → has_bit 0 i ≡ true → ⊥
+no_bit i h = both_ways _ (ap (λ n. n == 1) (bit_at-zero i)) h
+
 -- no lane sees a bit before the last lane sees the next one
 pub unseen_until : (lanes word at i k : ℕ) → lanes < 2 ^ 128 → word < 2 ^ 128 → at ≤ k
     → k + 127 < at + trailing_zeros w128 (word / 2 ^ at) + leading_zeros w128 lanes → has_bit lanes i ≡ true → has_bit word (i + k) ≡ false

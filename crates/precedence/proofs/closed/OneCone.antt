@@ -55,7 +55,7 @@ module _ (plan : PlanParts) (blocks : List Block) (cone : Cone) (is : IsCone con
       let second = and_parts (nat_le ((at c).z - (at b).z) cone.k) _ first.1 in
       record { low = lt; high = within; higher = ltb-true _ _ first.0; near = leb-true _ _ second.0; inside = second.1 })
       (λ past. absurd (
-      let none = exact_nowhere (above_in (at b)) c blocks past in
+      let none = exact_nowhere (above_in (at b)) c blocks any past in
       let bad : ⊥ = cc in bad))
       (cases_lt c (length blocks))
 

@@ -69,42 +69,22 @@ module _ (up down low high : ℕ) where
   unfolding far
   far_down le = let d : abs_diff low high ≡ low - high = omega arith in λ j. d j * downward le j
 
+-- one of the two distances is 0
+far_both : (up down low high : ℕ) → far up down low high ≡ (high - low) * up + (low - high) * down
+far_both up down low high = ⊎_elim
+    (λ lt. let none : low - high ≡ 0 = omega arith in omega (arith, far_up up down low high lt, ap (λ n. n * down) none))
+    (λ le. let none : high - low ≡ 0 = omega arith in omega (arith, far_down up down low high le, ap (λ n. n * up) none))
+    (cases_lt low high)
+
+in_parts : (whole first second k : ℕ) → whole ≤ first + second → whole * k ≤ first * k + second * k
+in_parts whole first second k le = omega (arith, mul-le-mul_right k le)
+
 -- no path through a third point is shorter
 pub through : (up down low mid high : ℕ) → far up down low high ≤ far up down low mid + far up down mid high
-through up down low mid high = ⊎_elim
-    (λ first. ⊎_elim
-    (λ second. ⊎_elim
-    (λ whole.
-    let e : high - low ≡ (mid - low) + (high - mid) = omega arith in
-    let p : (high - low) * up ≡ (mid - low) * up + (high - mid) * up = ap (λ n. n * up) e ∙ (omega arith) in
-    omega (arith, far_up up down low high whole, far_up up down low mid first, far_up up down mid high second, p))
-    (λ back. absurd (omega arith))
-    (cases_lt low high))
-    (λ second. ⊎_elim
-    (λ whole.
-    let p : (high - low) * up ≤ (mid - low) * up = mul-le-mul_right up (omega arith) in
-    omega (arith, far_up up down low high whole, far_up up down low mid first, p))
-    (λ back.
-    let p : (low - high) * down ≤ (mid - high) * down = mul-le-mul_right down (omega arith) in
-    omega (arith, far_down up down low high back, far_down up down mid high second, p))
-    (cases_lt low high))
-    (cases_lt mid high))
-    (λ first. ⊎_elim
-    (λ second. ⊎_elim
-    (λ whole.
-    let p : (high - low) * up ≤ (high - mid) * up = mul-le-mul_right up (omega arith) in
-    omega (arith, far_up up down low high whole, far_up up down mid high second, p))
-    (λ back.
-    let p : (low - high) * down ≤ (low - mid) * down = mul-le-mul_right down (omega arith) in
-    omega (arith, far_down up down low high back, far_down up down low mid first, p))
-    (cases_lt low high))
-    (λ second.
-    let back : high ≤ low = omega arith in
-    let e : low - high ≡ (low - mid) + (mid - high) = omega arith in
-    let p : (low - high) * down ≡ (low - mid) * down + (mid - high) * down = ap (λ n. n * down) e ∙ (omega arith) in
-    omega (arith, far_down up down low high back, far_down up down low mid first, far_down up down mid high second, p))
-    (cases_lt mid high))
-    (cases_lt low mid)
+through up down low mid high =
+    let ups = in_parts (high - low) (mid - low) (high - mid) up (omega arith) in
+    let downs = in_parts (low - high) (low - mid) (mid - high) down (omega arith) in
+    omega (arith, ups, downs, far_both up down low high, far_both up down low mid, far_both up down mid high)
 
 -- ---- slopes on different sides, with the same numbers below
 

@@ -6,6 +6,7 @@ use Rattle.std.proofs.lemmas.Bool.{cases_lt, lt-ltb, le-leb}
 use Rattle.std.proofs.lemmas.List.{drop_all, get_or-map, get_or_default, length-map}
 use Rattle.precedence.specs.inner.Rows.{is_in_row, is_in_rows, pasts, start_of, LieApart}
 use Rattle.precedence.specs.declared.cones.cone_rows.Row.{Row}
+use Rattle.precedence.proofs.Members.{some_of}
 use Rattle.precedence.proofs.ranges.RangesOfRows.{apart_at, before_rows, pasts_rise, skip}
 use Rattle.precedence.proofs.ranges.Starts.{from_start, start_before_in, start_within}
 
@@ -35,11 +36,9 @@ pub past_is : (rows : List Row) (i : ℕ) (d : Row) → i < length rows → get_
 past_is rows i d lt = get_or-map (λ (row : Row). row.past) rows i d 0 lt
 
 pub past_some : (rows : List Row) (high i : ℕ) → LieApart 0 rows high → i < length rows → 0 < get_or (pasts rows) i 0
-past_some rows high i apart lt = first rows lt
-  where
-    first : (rs : List Row) → i < length rs → 0 < get_or (pasts rows) i 0
-    first [] none = absurd (omega arith)
-    first (r ∷ rs) some = omega (arith, (apart_at 0 rows high i r apart lt).0, past_is rows i r lt)
+past_some rows high i apart lt =
+    let d = some_of rows i lt in
+    omega (arith, (apart_at 0 rows high i d apart lt).0, past_is rows i d lt)
 
 -- a code is in no row, if the rows before one end at it or before and that row starts after it
 pub in_none : (from c high i : ℕ) (rows : List Row) → LieApart 0 rows high → i ≤ length rows → ((k : ℕ) → k < i → from + get_or (pasts rows) k 0 ≤ c)
@@ -47,17 +46,14 @@ pub in_none : (from c high i : ℕ) (rows : List Row) → LieApart 0 rows high �
 in_none from c high i rows apart inside past before =
     skip from c i rows inside past
     ∙ ⊎_elim
-    (λ lt. first lt rows lt)
+    (λ lt.
+    let d = some_of rows i lt in
+    let row = get_or rows i d in
+    let at = apart_at 0 rows high i d apart lt in
+    ap (λ rs. is_in_rows from rs c) (drop-cons rows i d lt)
+    ∙ before_rows from c row.first (row ∷ drop (suc i) rows) high (omega arith, at.0, at.1) (before lt d))
     (λ le. ap (λ rs. is_in_rows from rs c) (drop_all i rows le))
     (cases_lt i (length rows))
-  where
-    first : i < length rows → (rs : List Row) → i < length rs → is_in_rows from (drop i rows) c ≡ false
-    first lt [] none = absurd (omega arith)
-    first lt (r ∷ rs) some =
-        let row = get_or rows i r in
-        let at = apart_at 0 rows high i r apart lt in
-        ap (λ rs. is_in_rows from rs c) (drop-cons rows i r lt)
-        ∙ before_rows from c row.first (row ∷ drop (suc i) rows) high (omega arith, at.0, at.1) (before lt r)
 
 module _ (from code high : ℕ) (rows : List Row) (apart : LieApart 0 rows high) where
   abbrev number : ℕ

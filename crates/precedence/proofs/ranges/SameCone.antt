@@ -47,14 +47,6 @@ one_code codes a b rising in_a in_b same = ⊎_elim
 -- Codes follow one another from an identifier on.
 module _ (codes : List ℕ) (rising : IsStrictlyIncreasing codes) (first count : ℕ) (lt : first < length codes)
     (along : FollowFrom codes first count) where
-  -- a block with a code less than `count` above the first one's code is one of them
-  pub is_one : (y : ℕ) → y < length codes → get_or codes first 0 ≤ get_or codes y 0 → get_or codes y 0 < get_or codes first 0 + count
-      → y ≡ first + (get_or codes y 0 - get_or codes first 0)
-  is_one y within low up =
-      let k = get_or codes y 0 - get_or codes first 0 in
-      let h = along k (omega (arith, low, up)) in
-      one_code codes y (first + k) rising within h.0 (let code = h.1 in omega (arith, low, code))
-
   low : (target k : ℕ) → target ≡ get_or codes first 0 + k → k ≤ count → first + k ≤ start_of target codes
   low target zero at le = ⊎_elim
       (λ some.
@@ -79,3 +71,8 @@ module _ (codes : List ℕ) (rising : IsStrictlyIncreasing codes) (first count :
   -- the start of the codes from a target on that is at most `count` above the first code
   pub start_is : (target k : ℕ) → target ≡ get_or codes first 0 + k → k ≤ count → start_of target codes ≡ first + k
   start_is target k at le = omega (arith, low target k at le, up target k at le)
+
+-- the start of the codes from a code of the list on
+pub start_at : (codes : List ℕ) (k : ℕ) → IsStrictlyIncreasing codes → k < length codes → (target : ℕ) → get_or codes k 0 ≡ target → start_of target codes ≡ k
+start_at codes k rising lt target is =
+    omega (arith, start_is codes rising k 0 lt (λ j less. absurd (omega arith)) target 0 (omega (arith, is)) (omega arith))

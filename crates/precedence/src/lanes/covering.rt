@@ -90,10 +90,14 @@ fn drop_by_cover(
     requires each { length by_table.now ≡ length tables.now }
     ensures { MayDrop (MeetsAny tables.now by_table.now distance) lanes result }
 {
-    if cover.table >= by_table.len() || cover.strip >= by_table[cover.table].strips.len() {
+    if cover.table >= by_table.len() {
         return lanes;
     }
-    let strip = &by_table[cover.table].strips[cover.strip];
+    let strips = &by_table[cover.table];
+    if cover.strip >= strips.strips.len() {
+        return lanes;
+    }
+    let strip = &strips.strips[cover.strip];
     drop_by_strip(lanes, strip, &tables[cover.table], distance)
 }
 

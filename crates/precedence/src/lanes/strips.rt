@@ -1,7 +1,6 @@
 //! What a window's lanes see in their cone, and what they retain.
 
 ghost use Rattle.std.specs.Prelude.{◌≡◌, ◌≤◌, ◌^◌, map};
-ghost use Rattle.std.specs.List.Sorted.{IsStrictlyIncreasing};
 ghost use Rattle.precedence.specs.inner.lanes.Strips.{AreApart};
 
 use crate::lanes::strip::Strip;
@@ -15,7 +14,6 @@ pub struct Strips {
     /// The first strip of each bench: a guess.
     pub benches: Vec<usize>,
     pub ghost each: { starts.items ≡ map (λ s. s.start) strips.items },
-    pub ghost rising: { IsStrictlyIncreasing starts.items },
     pub ghost apart: { AreApart strips.items },
 }
 

@@ -66,28 +66,10 @@ pub fn add_retained(
     ensures windows { AreWindows (scene cones.now) windows.new }
 {
     let number = cones.tables.of_zone[cones.zones[id] as usize];
-    find_window(windows, cones, number, id)?;
-    add_lane(ids, cones, &windows.windows[number], id)
-}
-
-// Replaces the window of a table by a window from the block `id` on, if the block is no lane of it.
-fn find_window(
-    windows: &mut Windows,
-    cones: &BlockCones<'_>,
-    number: usize,
-    id: usize,
-) -> Result<(), AllocError>
-    requires id { id < length (scene cones.now).codes }
-    requires number { number ≡ table_of (scene cones.now) id }
-    requires windows { AreWindows (scene cones.now) windows.old }
-    ensures lane { OnOk result ((w : Window)
-        → HasLane (slice_index_or windows.new.windows.items number w) (slice_index (scene cones.now).codes id)) }
-    ensures windows { AreWindows (scene cones.now) windows.new }
-{
-    if has_lane(&windows.windows[number], cones.places.codes[id]) {
-        return Ok(());
+    if !has_lane(&windows.windows[number], cones.places.codes[id]) {
+        make_window(windows, cones, number, id)?;
     }
-    make_window(windows, cones, number, id)
+    add_lane(ids, cones, &windows.windows[number], id)
 }
 
 fn has_lane(window: &Window, code: u64) -> bool

@@ -130,38 +130,15 @@ fn id_after_empty(
     ensures outside { (row : Row) (m : ℕ) → IsNoWider widths.now.west widths.now.east row → id ≤ m → m < result.id
         → is_in_row from row (slice_index places.now.codes.items m) ≡ false }
 {
-    let next = first_not_outside(places, past, widths, i, id as usize, from);
+    let start = i.saturating_add(FEW_ROWS);
+    let mut next = id as usize;
+    if gets_on(places.codes.as_slice(), past, start, next, from) {
+        next = pass_outside(places, past, sides_of(widths, from), i, next, from);
+    }
     IdAfter {
         id: next as u32,
         retry: end_of_chunk(places.codes.len(), next) as u32,
     }
-}
-
-// Returns the first identifier from `id` on that is not passed over.
-fn first_not_outside(
-    places: &Places,
-    past: &[u64],
-    widths: &Widths,
-    i: usize,
-    id: usize,
-    from: u64,
-) -> usize
-    requires id { id ≤ length places.now.codes.items }
-    ensures later { id ≤ result }
-    ensures within { result ≤ length places.now.codes.items }
-    ensures outside { (row : Row) (m : ℕ) → IsNoWider widths.now.west widths.now.east row → id ≤ m → m < result
-        → is_in_row from row (slice_index places.now.codes.items m) ≡ false }
-{
-    if !gets_on(
-        places.codes.as_slice(),
-        past,
-        i.saturating_add(FEW_ROWS),
-        id,
-        from,
-    ) {
-        return id;
-    }
-    pass_outside(places, past, sides_of(widths, from), i, id, from)
 }
 
 // Returns the first identifier from `id` on that is not passed over, for these sides.

@@ -1,6 +1,6 @@
 -- What the lanes of a window see and retain. A window has 64 codes from `base` on; lane i is the block with the code base + i, if its
 -- cone is the window's, with the rows `own`.
-use Rattle.std.specs.Prelude.{◌≡◌, ℕ, ◌+◌, ◌-◌, ◌<◌, ◌≤◌, ◌^◌, Bool, true, List, All, length, map, slice_get, slice_index, slice_index_or, ◌⊎◌}
+use Rattle.std.specs.Prelude.{◌≡◌, ℕ, ◌+◌, ◌-◌, ◌<◌, ◌≤◌, ◌^◌, Bool, true, List, All, Contains, length, map, slice_get, slice_index, slice_index_or, ◌⊎◌}
 use Rattle.std.specs.List.Sorted.{IsStrictlyIncreasing}
 use Rattle.precedence.specs.inner.lanes.Bits.{has_bit}
 use Rattle.precedence.specs.inner.Rows.{is_in_rows}
@@ -16,7 +16,6 @@ use Rattle.precedence.specs.declared.lanes.strips.Strips.{Strips}
 use Rattle.precedence.specs.declared.lanes.strips.Sight.{Sight}
 use Rattle.precedence.specs.declared.lanes.strips.Window.{Window}
 use Rattle.precedence.specs.declared.lanes.strips.Windows.{Windows}
-use Rattle.precedence.specs.IdRanges.{is_in}
 use Rattle.precedence.specs.inner.Between.{cone_of, is_in_cone, IsBetween}
 
 -- ---- bits: lane i sees the bit i + k of a strip at the strip's distance start + k
@@ -36,14 +35,22 @@ pub record Meets (strip : Strip) (rows : List Row) (distance i e : ℕ) : Type 0
   pub lower : e ≤ distance
   pub below : is_in_rows 0 rows (distance - e) ≡ true
 
--- lane i meets the rows by one of the strips
-abbrev pub MeetsIn : List Strip → List Row → (distance i : ℕ) → Type 0
-MeetsIn strips rows distance i = (k : ℕ) × (k < length strips) × (e : ℕ) × ((s : Strip) → Meets (slice_index_or strips k s) rows distance i e)
+-- lane i meets the rows by the strip with the number
+abbrev pub MeetsAt : List Strip → List Row → (distance k i : ℕ) → Type 0
+MeetsAt strips rows distance k i = (k < length strips) × (e : ℕ) × ((s : Strip) → Meets (slice_index_or strips k s) rows distance i e)
 
--- lane i meets the rows of some table by the strips of that table
+-- by one of the strips
+abbrev pub MeetsIn : List Strip → List Row → (distance i : ℕ) → Type 0
+MeetsIn strips rows distance i = (k : ℕ) × MeetsAt strips rows distance k i
+
+-- the rows of the table with the number, by the strips of that table
+abbrev pub MeetsTable : List ConeTable → List Strips → (distance n i : ℕ) → Type 0
+MeetsTable tables by_table distance n i =
+    (n < length tables) × ((t : ConeTable) (s : Strips) → MeetsIn (slice_index_or by_table n s).strips.items (slice_index_or tables n t).rows.items distance i)
+
+-- the rows of some table
 abbrev pub MeetsAny : List ConeTable → List Strips → (distance i : ℕ) → Type 0
-MeetsAny tables by_table distance i =
-    (n : ℕ) × (n < length tables) × ((t : ConeTable) (s : Strips) → MeetsIn (slice_index_or by_table n s).strips.items (slice_index_or tables n t).rows.items distance i)
+MeetsAny tables by_table distance i = (n : ℕ) × MeetsTable tables by_table distance n i
 
 -- some lanes may be dropped, each for the reason `Why`
 pub record MayDrop (Why : ℕ → Type 0) (lanes rest : ℕ) : Type 0 where
@@ -136,9 +143,10 @@ pub record IsStrip (b : Scene) (Is : ℕ → Type 0) (own : List Row) (base upto
   pub sound : (p : ℕ) → has_bit strip.word p ≡ true → (id : ℕ) × IsBlockAt b Is (base + strip.start + p) id
   pub complete : (p id : ℕ) → p < strip.len + 63 → id < upto → IsBlockAt b Is (base + strip.start + p) id → has_bit strip.word p ≡ true
 
--- strips with each distance before `at` at which some lane sees a block of this kind
+-- strips that end by `at`, with each distance before it at which some lane sees a block of this kind
 pub record AreStrips (b : Scene) (Is : ℕ → Type 0) (own : List Row) (base at : ℕ) (strips : List Strip) : Type 0 where
   pub each : All (IsStrip b Is own base (length b.codes)) strips
+  pub ends : (k : ℕ) (s : Strip) → k < length strips → (slice_index_or strips k s).start + (slice_index_or strips k s).len ≤ at
   pub all : (i e id : ℕ) → i < 64 → e < at → is_in_rows 0 own e ≡ true → IsBlockAt b Is (base + i + e) id
       → (k : ℕ) × (k < length strips) × ((s : Strip) → HasDistance (slice_index_or strips k s) e)
 
@@ -195,5 +203,5 @@ is_above b = is_in_cone b.codes (cones_of b)
 -- the reduced list: the identifiers in the cone of a block that are in the cone of no other block there
 pub record AreRetained (b : Scene) (id : ℕ) (retained : List ℕ) : Type 0 where
   pub rising : IsStrictlyIncreasing retained
-  pub sound : (c : ℕ) → is_in retained c ≡ true → (c < length b.codes) × (is_above b id c ≡ true) × ((d : ℕ) → IsBetween b.codes (cones_of b) id c d → ⊥)
-  pub complete : (c : ℕ) → c < length b.codes → is_above b id c ≡ true → (is_in retained c ≡ true) ⊎ ((d : ℕ) × IsBetween b.codes (cones_of b) id c d)
+  pub sound : (c : ℕ) → Contains retained c → (c < length b.codes) × (is_above b id c ≡ true) × ((d : ℕ) → IsBetween b.codes (cones_of b) id c d → ⊥)
+  pub complete : (c : ℕ) → c < length b.codes → is_above b id c ≡ true → Contains retained c ⊎ ((d : ℕ) × IsBetween b.codes (cones_of b) id c d)

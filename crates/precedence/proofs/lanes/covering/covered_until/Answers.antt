@@ -1,8 +1,8 @@
 use Rattle.std.proofs.Common.{◌-◌, ◌^◌, ◌<◌, ◌≤◌, length, ap, ◌∙◌, arith}
 use Rattle.precedence.specs.declared.cones.cone_rows.Row.{Row}
 use Rattle.precedence.proofs.bits.Covering.{row_covers}
-use Rattle.precedence.proofs.bits.RowsMet.{past_rises, row_some}
-use Rattle.precedence.proofs.ranges.RowOfCode.{row_is}
+use Rattle.precedence.proofs.bits.RowsMet.{past_rises}
+use Rattle.precedence.proofs.ranges.RowOfCode.{row_is, some_codes}
 use Rattle.precedence.proofs.lanes.covering.covered_until.Goals as goal
 
 pub start_near-row-requires : goal.start_near-row-requires
@@ -18,5 +18,5 @@ returns-then-index-most c = λ d le upto.
     let begun : row.first ≤ c.args.distance - c.args.cover.now.first =
     omega (arith, c.if-index-most.true, ap (λ (r : Row). r.first) (c.index.ensures ∙ tested)) in
     row_covers rows number row c.args.cover.now.first c.args.cover.now.past c.args.distance d lt c.index-then-index-most.ensures
-    (row_some rows (10 ^ 15) number row c.args.table.now.in_order lt c.index-then-index-most.ensures)
+    (some_codes rows (10 ^ 15) number row c.args.table.now.in_order lt c.index-then-index-most.ensures)
     c.if-cover.false c.if-distance-cover.false begun le upto

@@ -1,7 +1,7 @@
-use Rattle.std.proofs.Common.{◌+◌, ◌<◌, length, sym, subst, arith}
-use Rattle.precedence.specs.inner.lanes.Windows.{AreCovers}
-use Rattle.precedence.proofs.bits.Covering.{MeetsTables, more_tables, this_table, last_table, any_of_tables, tables_of_any, cover_is}
-use Rattle.precedence.proofs.bits.Dropping.{drops_more, drops_so}
+use Rattle.std.proofs.Common.{◌<◌, length, sym, subst, arith}
+use Rattle.precedence.specs.inner.lanes.Windows.{AreCovers, MeetsTable}
+use Rattle.precedence.proofs.bits.Covering.{cover_is, meets_table, table_meets}
+use Rattle.precedence.proofs.bits.Dropping.{drops_all, drops_next, drops_so}
 use Rattle.precedence.proofs.lanes.covering.drop_by_all.Goals.{then-place-len+in_ok-keep_cover, else-place-len}
 use Rattle.precedence.proofs.lanes.covering.drop_by_all.Goals as goal
 
@@ -27,19 +27,14 @@ loop-number-preserved c =
             })
         | else-place-len w ↦ subst (λ cs. AreCovers c.args.lanes by_table cs) (λ i. (sym w.covers-is i).items) c.loop-number.invariant.covers
       ];
-      drops = drops_more (MeetsTables tables by_table c.args.distance (number + 1))
-          (λ i meets. more_tables tables by_table c.requires.each c.args.distance number i meets)
-          (λ i meets. this_table tables by_table c.requires.each c.args.distance number i table strips lt c.index-tables-number.is c.index-by_table-number.is meets)
-          (λ i meets. last_table tables by_table c.requires.each c.args.distance number i table strips lt c.index-tables-number.is c.index-by_table-number.is meets)
-          c.loop-number.invariant.drops
-          c.drop_by_strips-rest.ensures;
+      drops = drops_next (MeetsTable tables by_table c.args.distance) 0 number (omega arith) c.loop-number.invariant.drops (drops_so
+          (λ i meets. (lt, table_meets tables by_table c.requires.each c.args.distance i number table strips lt c.index-tables-number.is c.index-by_table-number.is meets))
+          (λ i meets. meets_table tables by_table c.requires.each c.args.distance number i table strips lt c.index-tables-number.is c.index-by_table-number.is meets)
+          c.drop_by_strips-rest.ensures);
     }
 
 pub returns-clause-drops : goal.returns-clause-drops
 returns-clause-drops c =
-    let tables = c.args.tables.now in
-    let by_table = c.args.by_table.now in
-    drops_so
-    (λ i meets. any_of_tables tables by_table c.requires.each c.args.distance c.loop-number.number i meets)
-    (λ i meets. tables_of_any tables by_table c.requires.each c.args.distance c.loop-number.number i (omega (arith, c.loop-number-test.false)) meets)
+    drops_all (MeetsTable c.args.tables.now c.args.by_table.now c.args.distance) c.loop-number.number
+    (λ n i from meets. omega (arith, from, meets.0, c.loop-number-test.false))
     c.loop-number.invariant.drops

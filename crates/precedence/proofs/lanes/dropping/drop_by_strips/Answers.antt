@@ -1,14 +1,13 @@
-use Rattle.std.proofs.Common.{◌≡◌, ◌==◌, false, ℕ, ◌+◌, ◌-◌, ◌^◌, ◌<◌, ◌≤◌, length, get_or, ◌⊎◌, inl, inr, sym, ap, subst, ◌∙◌, ⊎_elim, arith}
-use Rattle.std.proofs.lemmas.Bool.{both_ways}
-use Rattle.std.proofs.lemmas.Nat.Bits.{bit_at-zero}
+use Rattle.std.proofs.Common.{◌≡◌, true, ℕ, ◌+◌, ◌-◌, ◌^◌, ◌<◌, ◌≤◌, length, get_or, ◌⊎◌, sym, ap, subst, ◌∙◌, arith}
 use Rattle.precedence.specs.declared.cones.cone_rows.Row.{Row}
 use Rattle.precedence.specs.declared.lanes.strip.Strip.{Strip}
 use Rattle.precedence.specs.inner.lanes.Bits.{has_bit}
-use Rattle.precedence.specs.inner.lanes.Windows.{Drops, Meets}
+use Rattle.precedence.specs.inner.lanes.Windows.{Drops, Meets, MeetsAt}
 use Rattle.precedence.specs.inner.Rows.{pasts, start_of}
-use Rattle.precedence.proofs.bits.Dropping.{drops_more, drops_so}
+use Rattle.precedence.proofs.bits.Dropping.{drops_all, drops_next, drops_past, drops_so, may_so}
 use Rattle.precedence.proofs.bits.RowsMet.{past_rises}
-use Rattle.precedence.proofs.bits.StripsMet.{MeetsBefore, as_many, start_at, starts_later, before_later, before_earlier, before_of_in, in_of_before, here, last_of_before, none_passed, none_there}
+use Rattle.precedence.proofs.bits.StripsMet.{as_many, start_at, starts_later, at_meets, meets_at, none_passed, none_there}
+use Rattle.precedence.proofs.bits.Words.{no_bit}
 use Rattle.precedence.proofs.ranges.RowOfCode.{row_is}
 use Rattle.precedence.proofs.ranges.Starts.{start_within}
 use Rattle.precedence.proofs.lanes.dropping.drop_by_strips.Goals.{else-row-rows-via-then-row-rows+else-rows-row, else-row-rows-via-else-row-rows}
@@ -27,12 +26,10 @@ loop-k-preserved-then-rows-row c =
     start_at strips starts c.as_slice-starts.ensures.value k strip lt ∙ ap (λ (s : Strip). s.start) (sym c.index.ensures) in
     let total : strip.start + (distance - get_or starts k 0) ≡ distance = omega (arith, start, c.if-starts-k.true) in
     let dropped = subst (λ d. Drops (λ i. (e : ℕ) × Meets strip rows d i e) c.loop-k.rest c.drop_by_rows-now.result) total c.drop_by_rows-now.ensures in
-    drops_more (MeetsBefore strips.strips.items rows distance (k + 1))
-    (λ i meets. before_later strips.strips.items rows distance k (k + 1) i (omega arith) meets)
-    (λ i meets. here strips.strips.items rows distance k i strip lt c.index.ensures meets)
-    (λ i meets. last_of_before strips.strips.items rows distance k i strip lt c.index.ensures meets)
-    c.loop-k.invariant
-    dropped
+    drops_next (MeetsAt strips.strips.items rows distance) 0 k (omega arith) c.loop-k.invariant (drops_so
+    (λ i meets. meets_at strips.strips.items rows distance k i strip lt c.index.ensures meets)
+    (λ i meets. at_meets strips.strips.items rows distance k i strip lt c.index.ensures meets)
+    dropped)
 
 pub next_strip-k-requires-clause-row : goal.next_strip-k-requires-clause-row
 next_strip-k-requires-clause-row c =
@@ -69,57 +66,37 @@ loop-k-preserved c =
     → (row ≡ 0) ⊎ (get_or (pasts rows) (row - 1) 0 + 63 ≤ distance - (get_or strips.strips.items j s).start) = rw past_is at c.next_strip-k.ensures.passed in
     let row_reached : row ≡ start_of (distance - start - 63 + 1) (pasts rows) =
     c.row_reached-row.ensures ∙ ap (λ n. start_of (n + 1) (pasts rows)) c.saturating_sub.ensures in
-    drops_so
-    (λ i meets. before_later strips.strips.items rows distance k c.next_strip-k.result i (omega (arith, c.next_strip-k.ensures.later)) meets)
-    (λ i meets. before_earlier strips.strips.items rows distance k c.next_strip-k.result i
-    (λ j e from up inside seen. none_passed strips.strips.items rows (10 ^ 15) distance k c.next_strip-k.result start row table.in_order
+    drops_past (MeetsAt strips.strips.items rows distance) 0 k c.next_strip-k.result (omega (arith, c.next_strip-k.ensures.later))
+    (none_passed strips.strips.items rows (10 ^ 15) distance k c.next_strip-k.result start row table.in_order
     (λ n s le less. omega (arith, starts_later strips k n s le less, at s))
-    at row_reached begins passed i j e from up inside seen)
-    meets)
+    at row_reached begins passed)
     c.loop-k.invariant
 
 pub returns-else-rest-ne0 : goal.returns-else-rest-ne0
-returns-else-rest-ne0 c =
-    let strips = c.args.strips.now.strips.items in
-    let rows = c.args.table.now.rows.items in
-    let h = c.if-rest-ne0.false in
-    record {
-      may = record {
-        among = c.loop-k.invariant.may.among;
-        dropped = λ i lane. ⊎_elim
-            (λ kept. inl kept)
-            (λ meets. inr (in_of_before strips rows c.args.distance c.loop-k.k i meets))
-            (c.loop-k.invariant.may.dropped i lane);
-      };
-      none = λ i kept _.
-          let none : has_bit c.loop-k.rest i ≡ false = ap (λ word. has_bit word i) h ∙ ap (λ n. n == 1) (bit_at-zero i) in
-          both_ways _ none kept;
-    }
+returns-else-rest-ne0 c = record {
+  may = may_so (λ i why. (why.0, why.3)) c.loop-k.invariant.may;
+  none = λ i kept _. no_bit i (subst (λ rest. has_bit rest i ≡ true) c.if-rest-ne0.false kept);
+}
 
 pub returns-else-starts-k : goal.returns-else-starts-k
 returns-else-starts-k c =
     let strips = c.args.strips.now in
-    let rows = c.args.table.now.rows.items in
     let k = c.loop-k.k in
     let starts = c.as_slice-starts.result.now in
     let lt : k < length strips.strips.items = omega (arith, c.loop-k-test.true, as_many strips starts c.as_slice-starts.ensures.value) in
-    drops_so
-    (λ i meets. in_of_before strips.strips.items rows c.args.distance k i meets)
-    (λ i meets. before_of_in strips.strips.items rows c.args.distance k i
-    (λ j e from inside seen. none_there strips.strips.items rows c.args.distance i j e inside
-    (λ s. omega (arith, starts_later strips k j s from inside, start_at strips starts c.as_slice-starts.ensures.value k s lt, c.if-starts-k.false))
-    seen)
-    meets)
+    drops_all (MeetsAt strips.strips.items c.args.table.now.rows.items c.args.distance) k
+    (λ j i from. none_there strips.strips.items c.args.table.now.rows.items c.args.distance j i
+    (λ inside s. omega (arith, starts_later strips k j s from inside, start_at strips starts c.as_slice-starts.ensures.value k s lt, c.if-starts-k.false)))
     c.loop-k.invariant
 
 pub returns-after-loop-k : goal.returns-after-loop-k
 returns-after-loop-k c =
-    let strips = c.args.strips.now in
-    let rows = c.args.table.now.rows.items in
-    let starts = c.as_slice-starts.result.now in
-    drops_so
-    (λ i meets. in_of_before strips.strips.items rows c.args.distance c.loop-k.k i meets)
-    (λ i meets. before_of_in strips.strips.items rows c.args.distance c.loop-k.k i
-    (λ j e from inside seen. omega (arith, from, inside, c.loop-k-test.false, as_many strips starts c.as_slice-starts.ensures.value))
-    meets)
+    drops_all (MeetsAt c.args.strips.now.strips.items c.args.table.now.rows.items c.args.distance) c.loop-k.k
+    (λ j i from meets. omega (
+      arith,
+      from,
+      meets.0,
+      c.loop-k-test.false,
+      as_many c.args.strips.now c.as_slice-starts.result.now c.as_slice-starts.ensures.value,
+    ))
     c.loop-k.invariant

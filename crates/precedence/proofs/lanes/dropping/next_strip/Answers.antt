@@ -1,7 +1,13 @@
 use Rattle.std.proofs.Common.{inr, arith}
-use Rattle.precedence.proofs.bits.StripsMet.{start_at}
+use Rattle.precedence.proofs.bits.StripsMet.{start_at, starts_rise}
 use Rattle.precedence.proofs.ranges.Starts.{start_before_in}
 use Rattle.precedence.proofs.lanes.dropping.next_strip.Goals as goal
+
+pub is_last_below-requires : goal.is_last_below-requires
+is_last_below-requires c = starts_rise c.args.strips.now c.as_slice-starts.result.now c.as_slice-starts.ensures.value
+
+pub start_near-requires : goal.start_near-requires
+start_near-requires c = starts_rise c.args.strips.now c.as_slice-starts.result.now c.as_slice-starts.ensures.value
 
 pub returns-clause-passed : goal.returns-clause-passed
 returns-clause-passed c = λ j s from before lt.

@@ -10,6 +10,5 @@ invariant_of-strips c =
     let r = c.index_mut.result.now in
     record {
       each = strips.each ∙ set_each strips.strips.items _ k (omega arith) r value refl refl;
-      rising = strips.rising;
       apart = set_apart strips.strips.items _ k (omega arith) r value refl refl strips.apart;
     }

@@ -1,14 +1,13 @@
 use Rattle.std.proofs.Common.{◌≡◌, ℕ, ◌+◌, ◌<◌, ◌≤◌, List, ◌∷◌, [], ◌++◌, set, sym, refl, ap, subst, ◌∙◌, length, get_or, arith, ⊎_elim}
 use Rattle.std.proofs.lemmas.Bool.{cases_eq}
 use Rattle.std.proofs.lemmas.List.{get_or-set_other, get_or-set_same, get_or_read, length-set}
-use Rattle.std.proofs.lemmas.List.Elements.{All-get_or}
 use Rattle.precedence.specs.inner.lanes.Windows.{any_block, of_table, scene}
 use Rattle.precedence.specs.inner.lanes.Looking.{HasBlocks, IsGrown, IsJoined}
 use Rattle.std.proofs.lemmas.Result.{on_ok_weaker}
 use Rattle.precedence.specs.declared.lanes.strip.Strip.{Strip}
 use Rattle.precedence.specs.declared.lanes.strips.Strips.{Strips}
 use Rattle.precedence.specs.inner.Between.{codes_in}
-use Rattle.precedence.proofs.bits.Looking.{grown_all, grown_more, grown_none, grown_others, grown_push, has_all, has_none, has_range, table_read}
+use Rattle.precedence.proofs.bits.Looking.{grown_more, grown_none, grown_past, grown_push, has_none, has_past, has_range, table_below, table_read, too_far}
 use Rattle.precedence.proofs.ranges.Starts.{from_start, start_before_in}
 use Rattle.precedence.proofs.lanes.looking.add_strip.Goals as goal
 use Rattle.precedence.proofs.lanes.looking.add_strip.Goals.{then-loop-id-test+else-codes-id, else-loop-id-test}
@@ -55,9 +54,7 @@ loop-id-preserved c =
     let first = c.args.sight.now.by_table.items in
     let old = c.loop-id.sight.by_table.items in
     let new = c.add_bits.new.strips in
-    let zone = All-get_or (λ z. z < length b.tables.now.of_zone.items) b.zones.now id 0 (let each = b.each in omega (arith, each, lt)) b.zoned in
-    let small = All-get_or (λ t. t < length b.tables.now.tables.items) b.tables.now.of_zone.items (get_or b.zones.now id 0) 0 zone b.tables.now.below in
-    let within : number < length old = let tables = had.by_table.tables in let each = c.requires.tables in omega (arith, small, table, tables, each) in
+    let within : number < length old = let tables = had.by_table.tables in let each = c.requires.tables in omega (arith, table_below b id lt, table, tables, each) in
     let joins : IsJoined c.loop-id.word bits c.joined-word.result =
     record { left = c.joined-word.ensures.left; right = c.joined-word.ensures.right; either = c.joined-word.ensures.either } in
     let few = strip.few in
@@ -79,8 +76,8 @@ loop-id-preserved c =
             (λ other.
             let kept : get_or (set old number new) n s ≡ get_or old n s = get_or-set_other old number n new s other in
             subst (λ (t : Strips). IsGrown (scene b) (of_table (scene b) n) from past strip (get_or first n s).strips.items t.strips.items) (sym kept)
-            (grown_others b (of_table (scene b) n) from strip (get_or first n s).strips.items id past bits (get_or old n s).strips.items range
-            (λ i le less is. other (sym is ∙ range.table i le less ∙ table)) (had.by_table.each n s in_n)))
+            (grown_past b (of_table (scene b) n) from strip (get_or first n s).strips.items id past (get_or old n s).strips.items
+            (λ p i le less lt at. other (sym at.kind ∙ range.table i le less ∙ table)) (had.by_table.each n s in_n)))
             (cases_eq n number);
       };
     }
@@ -102,7 +99,7 @@ returns-clause-added c =
     ] in
     let last = had.blocks in
     let blocks : HasBlocks (scene b) any_block from (strip.len + 63) (length (codes_in b)) s.word =
-    rw c.with_word.ensures.word (has_all b any_block from (strip.len + 63) id c.loop-id.word far last) in
+    rw c.with_word.ensures.word (has_past b any_block from (strip.len + 63) id (length (codes_in b)) c.loop-id.word (too_far b any_block from (strip.len + 63) id far) last) in
     let first = c.args.sight.now in
     let old = c.loop-id.sight in
     let new = c.push_strip.new.strips in
@@ -113,8 +110,8 @@ returns-clause-added c =
           (rw pushed grown);
       by_table = record {
         tables = had.by_table.tables;
-        each = λ n d lt. grown_all b (of_table (scene b) n) from strip (get_or first.by_table.items n d).strips.items id
-            (get_or old.by_table.items n d).strips.items far (had.by_table.each n d lt);
+        each = λ n d lt. grown_past b (of_table (scene b) n) from strip (get_or first.by_table.items n d).strips.items id (length (codes_in b))
+            (get_or old.by_table.items n d).strips.items (too_far b (of_table (scene b) n) from (strip.len + 63) id far) (had.by_table.each n d lt);
       };
     })
     c.push_strip.ensures

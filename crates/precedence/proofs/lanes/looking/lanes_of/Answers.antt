@@ -1,11 +1,10 @@
-use Rattle.std.proofs.Common.{ℕ, ◌<◌, sym, ap, subst, ◌∙◌, length, get_or, arith}
-use Rattle.std.proofs.lemmas.Bool.{false≢true}
+use Rattle.std.proofs.Common.{ℕ, ◌<◌, ap, subst, ◌∙◌, length, get_or, arith}
 use Rattle.std.proofs.lemmas.List.Kept.{AllPairs-from_increasing}
 use Rattle.precedence.specs.inner.lanes.Windows.{of_table, scene}
 use Rattle.precedence.specs.inner.lanes.Looking.{HasBlocks, IsJoined}
 use Rattle.precedence.specs.inner.Between.{codes_in}
-use Rattle.precedence.proofs.bits.Looking.{has_all, has_none, has_range, joined_below, no_bits, table_read}
-use Rattle.precedence.proofs.bits.Words.{below_by_bits}
+use Rattle.precedence.proofs.bits.Looking.{has_none, has_past, has_range, joined_below, table_read, too_far}
+use Rattle.precedence.proofs.bits.Words.{below_by_bits, no_bit}
 use Rattle.precedence.proofs.ranges.Starts.{no_less}
 use Rattle.precedence.proofs.lanes.looking.lanes_of.Goals as goal
 
@@ -16,7 +15,7 @@ loop-id-init c =
     record {
       later = omega arith;
       fits = omega arith;
-      few = λ p bit. absurd (false≢true (sym (no_bits p) ∙ bit));
+      few = λ p bit. absurd (no_bit p bit);
       blocks = has_none b (of_table (scene b) c.args.number) (get_or c.as_slice-codes.result.now id 0) 64 id
           (λ i lt. rw c.as_slice-codes.ensures.value (AllPairs-from_increasing (codes_in b) b.places.now.rising i id 0 lt c.requires));
     }
@@ -61,5 +60,6 @@ returns-else-codes-id-clause-complete c = λ i other lt at.
     let here = ap (λ cs. get_or cs id 0) value in
     let first = ap (λ cs. get_or cs c.args.id 0) value in
     let blocks = subst (λ (n : ℕ). HasBlocks (scene b) (of_table (scene b) c.args.number) n 64 id c.loop-id.lanes) first c.loop-id.invariant.blocks in
-    (has_all b (of_table (scene b) c.args.number) (get_or (codes_in b) c.args.id 0) 64 id c.loop-id.lanes
-    (λ less. let far = c.if-codes-id.false in omega (arith, far, here, first)) blocks).complete i other lt at.within at
+    (has_past b (of_table (scene b) c.args.number) (get_or (codes_in b) c.args.id 0) 64 id (length (codes_in b)) c.loop-id.lanes
+    (too_far b (of_table (scene b) c.args.number) (get_or (codes_in b) c.args.id 0) 64 id (λ less. let far = c.if-codes-id.false in omega (arith, far, here, first)))
+    blocks).complete i other lt at.within at

@@ -1,6 +1,5 @@
 use Rattle.std.proofs.Common.{◌≡◌, ◌-◌, ◌≤◌, ◌^◌, length}
 use Rattle.precedence.specs.inner.lanes.Windows.{scene, Sees}
-use Rattle.precedence.specs.inner.lanes.Looking.{EndBy, TablesEndBy}
 use Rattle.precedence.specs.inner.Between.{tables_in}
 use Rattle.precedence.proofs.lanes.looking.look.Given as goal
 
@@ -9,8 +8,6 @@ invariant-loop-strip l = record {
   small : l.at ≤ 10 ^ 15;
   tables : length l.sight.by_table.items ≡ length (tables_in l.cones);
   sees : Sees (scene l.cones) l.table.rows.items l.base l.at l.sight;
-  all_end : EndBy l.at l.sight.all.strips.items;
-  tables_end : TablesEndBy l.at l.sight.by_table.items;
 }
 
 abbrev pub decreases-loop-strip : goal.decreases-loop-strip

@@ -1,5 +1,5 @@
 use Rattle.std.proofs.Common.{◌≡◌, ◌∷◌, [], ◌++◌, arith}
-use Rattle.precedence.proofs.bits.Looking.{push_apart, push_each, push_rising, starts_below}
+use Rattle.precedence.proofs.bits.Looking.{push_apart, push_each}
 use Rattle.precedence.proofs.lanes.looking.push_strip.Goals as goal
 
 pub invariant_of-strips-2 : goal.invariant_of-strips-2
@@ -13,6 +13,5 @@ invariant_of-strips-2 c =
     let first = c.in_ok-push.ensures.items in
     record {
       each = rw (first, pushed) (push_each strips.starts.items strips.strips.items s strips.each);
-      rising = rw first (push_rising strips.starts.items s.start strips.rising (starts_below strips.starts.items strips.strips.items s.start strips.each c.requires));
       apart = rw pushed (push_apart strips.strips.items s c.requires strips.apart);
     }

@@ -2,7 +2,7 @@ use Rattle.std.proofs.Common.{◌≡◌, ◌+◌, ◌/◌, ◌<◌, true, length
 use Rattle.std.proofs.lemmas.Bool.{and_from, cases_lt, eqb-true}
 use Rattle.precedence.specs.inner.Outside.{x_of, IsInColumns}
 use Rattle.precedence.specs.inner.lanes.Bits.{has_bit}
-use Rattle.precedence.proofs.bits.Serving.{no_bit}
+use Rattle.precedence.proofs.bits.Words.{no_bit}
 use Rattle.precedence.proofs.lists.outside.is_outside.Goals as goal
 
 pub returns-in-Some : goal.returns-in-Some
