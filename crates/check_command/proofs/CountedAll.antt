@@ -1,7 +1,10 @@
 -- Counting one file after the other counts the texts of all files.
 use Rattle.std.specs.Prelude.{◌≡◌, ℕ, List, length, Option, None, Some, Result, Ok, Err}
 use Rattle.std.proofs.Common.{refl, ap}
+use Rattle.devices.specs.feeds.Fed.{IfFed}
 use Rattle.devices.specs.feeds.FeedState.{FeedState}
+use Rattle.devices.specs.declared.feeds.fed_fault.FedFault.{FedFault}
+use Rattle.devices.specs.declared.feeds.fed_fault.FedFault.TheVariants.{Text, Unread}
 use Rattle.pit_units.specs.Steps.{◌>>=◌}
 use Rattle.minelib_reading.specs.BlockText.{blocks_in}
 use Rattle.minelib_reading.specs.Denotes.{cpit_denoted, denoted}
@@ -21,42 +24,39 @@ use Rattle.check_command.specs.Counts.{Texts, counted, cpit_counted}
 use Rattle.check_command.specs.inner.CountSteps.{counted_in, counted_on, no_counts}
 use Rattle.check_command.specs.declared.counts.Counts.{Counts}
 
-module _ (limit : ℕ) (old new : FeedState) (c : Counts) where
-  pub blocks_reported : (answer : Result ℕ LineFault) → IsFedAnswer blocks_counted limit old new answer
-      → IsFedAnswer (counted_in Blocks c) limit old new (answer >>= λ n. Ok (record c { blocks = n }))
-  unfolding counted_in
-  blocks_reported answer fed = record {
-    text = fed.text;
-    is_text = fed.is_text;
-    answers = ap (λ r. r >>= λ n. Ok (record c { blocks = n })) fed.answers;
-  }
+module _ (limit : ℕ) (old new : FeedState) where
+  counted_with : {A : Type 0} (rule : List ℕ → Result A LineFault) (counts : A → Counts) (answer : Result A (FedFault LineFault))
+      → IfFed answer (IsFedAnswer rule limit old new)
+      → IfFed (answer >>= λ x. Ok (counts x)) (IsFedAnswer (λ text. rule text >>= λ x. Ok (counts x)) limit old new)
+  counted_with rule counts (Ok x) fed =
+      record { text = fed.text; is_text = fed.is_text; answers = ap (λ r. r >>= λ x. Ok (counts x)) fed.answers }
+  counted_with rule counts (Err (Text fault)) fed =
+      record { text = fed.text; is_text = fed.is_text; answers = ap (λ r. r >>= λ x. Ok (counts x)) fed.answers }
+  counted_with rule counts (Err (Unread fault)) fed = tt
 
-  pub arcs_reported : (answer : Result ℕ LineFault) → IsFedAnswer (arcs_counted c.blocks) limit old new answer
-      → IsFedAnswer (counted_in Prec c) limit old new (answer >>= λ arcs. Ok (record c { arcs = arcs }))
-  unfolding counted_in
-  arcs_reported answer fed = record {
-    text = fed.text;
-    is_text = fed.is_text;
-    answers = ap (λ r. r >>= λ arcs. Ok (record c { arcs = arcs })) fed.answers;
-  }
+  module _ (c : Counts) where
+    pub blocks_reported : (answer : Result ℕ (FedFault LineFault)) → IfFed answer (IsFedAnswer blocks_counted limit old new)
+        → IfFed (answer >>= λ n. Ok (record c { blocks = n })) (IsFedAnswer (counted_in Blocks c) limit old new)
+    unfolding counted_in
+    blocks_reported answer fed = counted_with blocks_counted (λ n. record c { blocks = n }) answer fed
 
-  pub model_reported : (answer : Result (ℕ × ℕ) LineFault) → IsFedAnswer (model_counted problem.Pcpsp c.blocks) limit old new answer
-      → IsFedAnswer (counted_in Pcpsp c) limit old new (answer >>= λ x. Ok (record c { coefficients = x.0; limits = x.1 }))
-  unfolding counted_in
-  model_reported answer fed = record {
-    text = fed.text;
-    is_text = fed.is_text;
-    answers = ap (λ r. r >>= λ x. Ok (record c { coefficients = x.0; limits = x.1 })) fed.answers;
-  }
+    pub arcs_reported : (answer : Result ℕ (FedFault LineFault)) → IfFed answer (IsFedAnswer (arcs_counted c.blocks) limit old new)
+        → IfFed (answer >>= λ n. Ok (record c { arcs = n })) (IsFedAnswer (counted_in Prec c) limit old new)
+    unfolding counted_in
+    arcs_reported answer fed = counted_with (arcs_counted c.blocks) (λ n. record c { arcs = n }) answer fed
 
-  pub cpit_reported : (answer : Result (ℕ × ℕ) LineFault) → IsFedAnswer (model_counted problem.Cpit c.blocks) limit old new answer
-      → IsFedAnswer (counted_in Cpit c) limit old new (answer >>= λ x. Ok (record c { cpit = Some x.0 }))
-  unfolding counted_in
-  cpit_reported answer fed = record {
-    text = fed.text;
-    is_text = fed.is_text;
-    answers = ap (λ r. r >>= λ x. Ok (record c { cpit = Some x.0 })) fed.answers;
-  }
+    pub model_reported : (answer : Result (ℕ × ℕ) (FedFault LineFault))
+        → IfFed answer (IsFedAnswer (model_counted problem.Pcpsp c.blocks) limit old new)
+        → IfFed (answer >>= λ x. Ok (record c { coefficients = x.0; limits = x.1 })) (IsFedAnswer (counted_in Pcpsp c) limit old new)
+    unfolding counted_in
+    model_reported answer fed =
+        counted_with (model_counted problem.Pcpsp c.blocks) (λ x. record c { coefficients = x.0; limits = x.1 }) answer fed
+
+    pub cpit_reported : (answer : Result (ℕ × ℕ) (FedFault LineFault))
+        → IfFed answer (IsFedAnswer (model_counted problem.Cpit c.blocks) limit old new)
+        → IfFed (answer >>= λ x. Ok (record c { cpit = Some x.0 })) (IsFedAnswer (counted_in Cpit c) limit old new)
+    unfolding counted_in
+    cpit_reported answer fed = counted_with (model_counted problem.Cpit c.blocks) (λ x. record c { cpit = Some x.0 }) answer fed
 
 -- a file after valid ones
 pub reported : (file : TextFile) (c : Counts) (limit : ℕ) (old new : FeedState) (answer : Result Counts LineFault)

@@ -1,10 +1,8 @@
 //! The check of an instance's files.
 
-ghost use Rattle.std.specs.Prelude.{◌≡◌, ◌≢◌, ◌≤◌, ◌⊎◌, ◌++◌, [], ◌∷◌, MatchOption, IfErr, IfOk, IfSome, OnErr, OnOk};
-ghost use Rattle.check_command.specs.Checked.{FailsIn, IsCheckStatus, IsFoundIn, IsFoundInOpenedFiles, IsMissing, IsUntried, ReportsFiles, ReportsOpenedFiles, path_of};
-ghost use Rattle.check_command.specs.inner.CheckSteps.{CountsAll, HasTextWith};
-ghost use Rattle.check_command.specs.inner.CountSteps.{counted_on};
-ghost use Rattle.devices.specs.files.Opening.{Unopened};
+ghost use Rattle.std.specs.Prelude.{◌≡◌, ◌≤◌, ◌⊎◌, IfErr, IfOk, Ok, OnErr, OnOk};
+ghost use Rattle.check_command.specs.Checked.{FailsIn, IsCheckStatus, IsFoundIn, IsFoundInOpenedFiles, IsMissing, IsUntried, ReportsFiles, ReportsOpenedFiles};
+ghost use Rattle.check_command.specs.inner.CheckSteps.{CountsAll, CountsOn};
 ghost use Rattle.refusals.specs.declared.refusal.Refusal.TheVariants.{OutOfMemory};
 ghost use Rattle.plan_parts.specs.declared.ranges.TheConstants.{MAX_BLOCKS};
 ghost use Rattle.command_io.specs.FaultLine.{IsDoneOrRefused};
@@ -84,85 +82,55 @@ fn report_counts<O: Opener>(
     ensures fault { IfErr result (IsFoundIn base.now O.Opened.state O.File.path
         (O.opened files.old) (O.opened files.new)) }
 {
-    let counts = match count_all(alloc, base, files)? {
-        Ok(counts) => counts,
-        Err(fault) => return Err(Refused::Text(fault)),
-    };
+    let counts = count_all(alloc, base, files)?;
     let line = format!(in alloc; "{counts}\n")?;
     out.extend_from_slice(line.as_bytes())?;
     Ok(())
 }
 
-// Returns the counts of the files' texts, or the first invalid line. Reads each file to its end in either case.
-fn count_all<O: Opener>(
-    alloc: Global,
-    base: &str,
-    files: &mut O,
-) -> Result<Result<Counts, TextFault>, Refused>
-    ensures counts { IfOk result (CountsAll base.now O.Opened.state O.File.path
-        (O.opened files.old) (O.opened files.new)) }
+// Returns the counts of the files' texts. Reads each file to its end, also after an invalid line.
+fn count_all<O: Opener>(alloc: Global, base: &str, files: &mut O) -> Result<Counts, Refused>
+    ensures counts { IfOk result (λ counts. CountsAll base.now O.Opened.state O.File.path
+        (O.opened files.old) (O.opened files.new) (Ok counts)) }
     ensures fault { IfErr result (IsFoundIn base.now O.Opened.state O.File.path
         (O.opened files.old) (O.opened files.new)) }
 {
-    let blocks = count_file(alloc, base, TextFile::Blocks, files, Ok(Counts::new()))?;
-    let prec = count_file(alloc, base, TextFile::Prec, files, blocks)?;
-    let pcpsp = count_file(alloc, base, TextFile::Pcpsp, files, prec)?;
-    match count_if_there(alloc, base, TextFile::Cpit, files, pcpsp)? {
-        Some(cpit) => Ok(cpit),
-        None => Ok(pcpsp),
+    let mut counts = Ok(Counts::new());
+    count_file(alloc, base, TextFile::Blocks, files, &mut counts)?;
+    count_file(alloc, base, TextFile::Prec, files, &mut counts)?;
+    count_file(alloc, base, TextFile::Pcpsp, files, &mut counts)?;
+    count_file(alloc, base, TextFile::Cpit, files, &mut counts)?;
+    match counts {
+        Ok(counts) => Ok(counts),
+        Err(fault) => Err(Refused::Text(fault)),
     }
 }
 
-// Returns the counts of a file and of earlier files. It must be a file that is required.
+// Adds the counts of a file to the counts of earlier files, unless a line is invalid. A `cpit` that cannot be opened adds none.
+#[tactic(auto, using(crate::proofs::Checks::unread_file, crate::proofs::Checks::counted_file))]
 fn count_file<O: Opener>(
     alloc: Global,
     base: &str,
     file: TextFile,
     files: &mut O,
-    so_far: Result<Counts, TextFault>,
-) -> Result<Result<Counts, TextFault>, Refused>
-    requires needed { file ≢ TextFile.Cpit }
-    requires few { IfOk so_far (λ counts. counts.blocks ≤ MAX_BLOCKS) }
-    ensures counts { IfOk result (λ answer. HasTextWith base.now O.Opened.state O.File.path file
-        (λ text. answer ≡ counted_on file so_far text) (O.opened files.old) (O.opened files.new)) }
-    ensures few { IfOk result (λ answer. IfOk answer (λ counts. counts.blocks ≤ MAX_BLOCKS)) }
+    counts: &mut Result<Counts, TextFault>,
+) -> Result<(), Refused>
+    requires few { IfOk counts.old (λ counts. counts.blocks ≤ MAX_BLOCKS) }
+    ensures counts { OnOk result (CountsOn base.now O.Opened.state O.File.path file
+        (O.opened files.old) (O.opened files.new) counts.old counts.new) }
+    ensures few { OnOk result (IfOk counts.new (λ counts. counts.blocks ≤ MAX_BLOCKS)) }
     ensures fault { IfErr result (λ refused. FailsIn base.now O.Opened.state O.File.path file
         (O.opened files.old) (O.opened files.new) refused
         ⊎ (IsMissing base.now file (O.opened files.old) (O.opened files.new) refused
         ⊎ IsUntried (O.opened files.old) (O.opened files.new) refused)) }
 {
-    match count_if_there(alloc, base, file, files, so_far)? {
-        Some(answer) => Ok(answer),
-        None => Err(Refused::FeedFailed(Source::Text(file))),
-    }
-}
-
-// The same, or `None` if the file cannot be opened.
-#[tactic(auto, using(crate::proofs::Checks::unread_file, crate::proofs::Checks::counted_file))]
-fn count_if_there<O: Opener>(
-    alloc: Global,
-    base: &str,
-    file: TextFile,
-    files: &mut O,
-    so_far: Result<Counts, TextFault>,
-) -> Result<Option<Result<Counts, TextFault>>, Refused>
-    requires few { IfOk so_far (λ counts. counts.blocks ≤ MAX_BLOCKS) }
-    ensures counts { IfOk result (λ found. MatchOption found
-        (O.opened files.new ≡ O.opened files.old ++ Unopened (path_of base.now file) ∷ [])
-        (λ answer. HasTextWith base.now O.Opened.state O.File.path file
-        (λ text. answer ≡ counted_on file so_far text) (O.opened files.old) (O.opened files.new))) }
-    ensures few { IfOk result (λ found. IfSome found (λ answer. IfOk answer
-        (λ counts. counts.blocks ≤ MAX_BLOCKS))) }
-    ensures fault { IfErr result (λ refused. FailsIn base.now O.Opened.state O.File.path file
-        (O.opened files.old) (O.opened files.new) refused
-        ⊎ IsUntried (O.opened files.old) (O.opened files.new) refused) }
-{
     let path = format!(in alloc; "{base}.{file}")?;
     match files.open(path.as_str()) {
-        Ok(mut feed) => match count_on(alloc, file, so_far, &mut feed) {
-            Ok(answer) => Ok(Some(answer)),
+        Ok(mut feed) => match count_on(alloc, file, counts, &mut feed) {
+            Ok(()) => Ok(()),
             Err(fault) => Err(Refused::unread(Source::Text(file), fault)),
         },
-        Err(_) => Ok(None),
+        Err(_) if file == TextFile::Cpit => Ok(()),
+        Err(_) => Err(Refused::FeedFailed(Source::Text(file))),
     }
 }

@@ -1,3 +1,4 @@
+pub mod Fed
 pub mod Feed
 pub mod FeedState
 pub mod FeedSteps

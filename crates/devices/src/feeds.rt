@@ -1,5 +1,6 @@
 //! Feeds, which give bytes, and a reader that reads a feed to its end.
 
+pub mod fed_fault;
 pub mod feed;
 pub mod file_feed;
 pub mod filling;

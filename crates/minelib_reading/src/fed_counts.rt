@@ -1,6 +1,7 @@
 //! Counts of what feeds' texts state, made while the feeds are read.
 
 ghost use Rattle.std.specs.Prelude.{◌≤◌, IfOk};
+ghost use Rattle.devices.specs.feeds.Fed.{IfFed, feed_end};
 ghost use Rattle.devices.specs.feeds.ReadWhole.{ReadsFeed};
 ghost use Rattle.devices.specs.declared.feeds.slurp.TheConstants.{LARGEST_LIMIT};
 ghost use Rattle.minelib_reading.specs.FedCounts.{IsFedAnswer, arcs_counted, blocks_counted, model_counted};
@@ -12,14 +13,12 @@ use crate::model::draft::ModelDraft;
 use crate::prec_reader::PrecDraft;
 use crate::taking::{TakeBlocks, TakePreds};
 use devices::feeds::feed::Feed;
-use devices::feeds::slurp::SlurpFault;
 use minelib_lines::problem::Problem;
-use pit_units::OrMemory;
 use std::alloc::Global;
 use text_lines::fed_lines::{FedResult, read_fed};
 
-/// Returns the number of blocks that a feed's text states, or its first invalid line, in the lenient grammar of docs/formats.md.
-/// Reads the feed to its end in either case. Memory grows with the longest line, not with the text.
+/// Returns the number of blocks that a feed's text states, in the lenient grammar of docs/formats.md. Memory grows with the longest
+/// line, not with the text.
 ///
 /// # Errors
 ///
@@ -29,22 +28,19 @@ pub fn count_blocks<F: Feed>(alloc: Global, feed: &mut F, limit: u64) -> FedResu
     requires { limit ≤ LARGEST_LIMIT }
 
     // What a result shows of the text.
-    ensures counts { IfOk result (IsFedAnswer blocks_counted limit (F.state feed.old) (F.state feed.new)) }
-    ensures few { IfOk result (λ answer. IfOk answer (λ blocks. blocks ≤ MAX_BLOCKS)) }
+    ensures counts { IfFed result (IsFedAnswer blocks_counted limit (F.state feed.old) (F.state feed.new)) }
+    ensures few { IfOk result (λ blocks. blocks ≤ MAX_BLOCKS) }
 
-    // After a result, the feed is at its end. The clause also states when each error occurs, the number of bytes read, and the
-    // feed's state.
-    ensures reads { ReadsFeed limit (F.state feed.old) (F.state feed.new) result }
+    // After a count or an invalid line, the feed is at its end. The clause also states when each error occurs, the number of bytes
+    // read, and the feed's state.
+    ensures reads { ReadsFeed limit (F.state feed.old) (F.state feed.new) (feed_end result) }
 {
     let mut draft = BlockDraft::new(CountedBlocks::new());
-    match read_fed(alloc, &mut draft, feed, limit)? {
-        Ok(_) => Ok(Ok(draft.finish().count())),
-        Err(fault) => Ok(Err(fault)),
-    }
+    read_fed(alloc, &mut draft, feed, limit)?;
+    Ok(draft.finish().count())
 }
 
-/// Returns the number of predecessors that a feed's text states for all of `blocks` blocks, or its first invalid line. Reads the
-/// feed to its end in either case.
+/// Returns the number of predecessors that a feed's text states for all of `blocks` blocks.
 ///
 /// # Errors
 ///
@@ -60,26 +56,19 @@ pub fn count_arcs<F: Feed>(
     requires limit { limit ≤ LARGEST_LIMIT }
 
     // What a result shows of the text.
-    ensures counts { IfOk result (IsFedAnswer (arcs_counted blocks) limit (F.state feed.old)
+    ensures counts { IfFed result (IsFedAnswer (arcs_counted blocks) limit (F.state feed.old)
         (F.state feed.new)) }
 
-    // After a result, the feed is at its end. The clause also states when each error occurs, the number of bytes read, and the
-    // feed's state.
-    ensures reads { ReadsFeed limit (F.state feed.old) (F.state feed.new) result }
+    // After a count or an invalid line, the feed is at its end. The clause also states when each error occurs, the number of bytes
+    // read, and the feed's state.
+    ensures reads { ReadsFeed limit (F.state feed.old) (F.state feed.new) (feed_end result) }
 {
     let mut draft = PrecDraft::new(alloc, CountedPreds::new(), blocks);
-    match read_fed(alloc, &mut draft, feed, limit)? {
-        Ok(end) => match draft.finish(end) {
-            Ok(preds) => Ok(Ok(preds.arcs())),
-            Err(OrMemory::Fault(fault)) => Ok(Err(fault)),
-            Err(OrMemory::OutOfMemory) => Err(SlurpFault::OutOfMemory),
-        },
-        Err(fault) => Ok(Err(fault)),
-    }
+    let end = read_fed(alloc, &mut draft, feed, limit)?;
+    Ok(draft.finish(end)?.arcs())
 }
 
-/// Returns the numbers of coefficients and limits that a problem's model file states for `blocks` blocks, or its first invalid
-/// line. The file is a feed's text. Reads the feed to its end in either case.
+/// Returns the numbers of coefficients and limits that a problem's model file states for `blocks` blocks. The file is a feed's text.
 ///
 /// # Errors
 ///
@@ -96,20 +85,15 @@ pub fn count_model<F: Feed>(
     requires limit { limit ≤ LARGEST_LIMIT }
 
     // What a result shows of the text.
-    ensures counts { IfOk result
+    ensures counts { IfFed result
         (IsFedAnswer (model_counted problem blocks) limit (F.state feed.old) (F.state feed.new)) }
 
-    // After a result, the feed is at its end. The clause also states when each error occurs, the number of bytes read, and the
-    // feed's state.
-    ensures reads { ReadsFeed limit (F.state feed.old) (F.state feed.new) result }
+    // After a count or an invalid line, the feed is at its end. The clause also states when each error occurs, the number of bytes
+    // read, and the feed's state.
+    ensures reads { ReadsFeed limit (F.state feed.old) (F.state feed.new) (feed_end result) }
 {
     let mut draft = ModelDraft::new(alloc, problem, blocks, CountedItems::new());
-    match read_fed(alloc, &mut draft, feed, limit)? {
-        Ok(end) => match draft.finish(end) {
-            Ok(model) => Ok(Ok((model.coefs_len(), model.limits_len()))),
-            Err(OrMemory::Fault(fault)) => Ok(Err(fault)),
-            Err(OrMemory::OutOfMemory) => Err(SlurpFault::OutOfMemory),
-        },
-        Err(fault) => Ok(Err(fault)),
-    }
+    let end = read_fed(alloc, &mut draft, feed, limit)?;
+    let model = draft.finish(end)?;
+    Ok((model.coefs_len(), model.limits_len()))
 }

@@ -1,6 +1,7 @@
 -- Reads a text while a feed gives it: each step keeps the lines read and the lines to come.
-use Rattle.std.proofs.Common.{◌≡◌, ◌≢◌, ℕ, ◌+◌, ◌-◌, ◌<◌, ◌≤◌, IsTrue, true, List, [], ◌++◌, length, take, drop, refl, sym, ap, subst, ◌∙◌, arith, Result, Ok, Err, Option, Some, None, IfOk, IfSome}
+use Rattle.std.proofs.Common.{◌≡◌, ◌≢◌, ℕ, ◌+◌, ◌-◌, ◌<◌, ◌≤◌, IsTrue, true, List, [], ◌++◌, length, take, drop, refl, sym, ap, subst, ◌∙◌, arith, Result, Ok, Err, Option, Some, None, IfSome}
 use Rattle.std.proofs.lemmas.List.{take_all, append_assoc, append-nil, length-append, length-take-le, length-drop, take-append-drop, nil_from_length}
+use Rattle.devices.specs.feeds.Fed.{IfFed, fed_fault}
 use Rattle.devices.specs.feeds.Feed.{put_back}
 use Rattle.devices.specs.feeds.FeedState.{FeedState}
 use Rattle.devices.specs.feeds.FeedSteps.{remaining_after}
@@ -16,7 +17,7 @@ use Rattle.text_lines.specs.Reading.{Leaves, read_lines}
 use Rattle.text_lines.specs.TextLines.{end_of, lines_in, lines_of, numbered_lines}
 use Rattle.text_lines.specs.declared.text_fault.LineFault.{LineFault}
 use Rattle.text_lines.specs.declared.text_fault.TextKind.{TextKind}
-use Rattle.text_lines.specs.inner.Waiting.{AreWholeLines, Gave, GaveAll, HasInvalidLine, Held, IsLastReading, SoFar, TakesEnded, Took, WaitingView, end_to_come, leading_end, leading_lines, lines_to_come, none_held, unmarked}
+use Rattle.text_lines.specs.inner.Waiting.{AreWholeLines, Gave, GaveAll, HasInvalidLine, Held, SoFar, TakesEnded, Took, WaitingView, end_to_come, leading_end, leading_lines, lines_to_come, none_held, unmarked}
 use Rattle.text_lines.proofs.ChunkFacts.{lines_append, lines_few, numbered_append, read_append, unmarked_append, unmarked_short, unmarked_whole}
 
 pub put_nothing : (remaining : Option (List ℕ)) → remaining ≡ put_back [] remaining
@@ -254,31 +255,37 @@ unfolding end_to_come
 last_end w count all = rw (append-nil w.held, take_all count w.held all) refl
 
 -- the text has ended, and its last lines are the held lines
-pub read_whole : {S : Type 0} (admit : S → List ℕ → Result S TextKind) (before now after : S) (w : WaitingView) (rest limit : ℕ)
-    (old new : FeedState) (answer : Result ℕ LineFault) → SoFar admit before now w rest (limit + 1) old.remaining new.remaining → 0 < rest
-    → new.given - old.given + rest ≡ limit + 1 → IfSome new.remaining (λ bytes. bytes ≡ []) → IsLastReading admit now after w answer
-    → IsFedReading admit limit old new before after answer
-read_whole admit before now after w rest limit old new (Ok end) so some counts none last = record {
-  text = so.text;
-  is_text = record {
-    reported = text_reported old.remaining new.remaining so.text so.gave none;
+module _ {S : Type 0} (admit : S → List ℕ → Result S TextKind) (before now after : S) (v w : WaitingView) (rest n limit count : ℕ)
+    (old mid new : FeedState) (read_before : SoFar admit before now v rest (limit + 1) old.remaining mid.remaining)
+    (held : Held n v w mid.remaining new.remaining) (zero : n ≡ 0) (some : 0 < rest) (counts : new.given - old.given + rest ≡ limit + 1)
+    (none : IfSome mid.remaining (λ bytes. bytes ≡ [])) (all : length w.held ≤ count) where
+  so : SoFar admit before now w rest (limit + 1) old.remaining new.remaining
+  so = held_more admit before now v w rest rest n (limit + 1) _ _ _ read_before held (omega (arith, zero))
+
+  whole_text : IsTextOf limit old new so.text
+  whole_text = record {
+    reported = text_reported old.remaining new.remaining so.text so.gave (none_after _ _ held.bytes held.remaining (held.count ∙ zero) none);
     short = omega (arith, so.count, some);
     whole = omega (arith, so.count, counts);
-  };
-  reads = (
-    ap (λ bytes. read_lines admit before (lines_in bytes)) (sym (append-nil so.text)) ∙ so.reads [] ∙ last.0,
-    last.1 ∙ sym (so.ends []) ∙ ap end_of (append-nil so.text),
-  );
-}
-read_whole admit before now after w rest limit old new (Err fault) so some counts none last = record {
-  text = so.text;
-  is_text = record {
-    reported = text_reported old.remaining new.remaining so.text so.gave none;
-    short = omega (arith, so.count, some);
-    whole = omega (arith, so.count, counts);
-  };
-  reads = ap (λ bytes. read_lines admit before (lines_in bytes)) (sym (append-nil so.text)) ∙ so.reads [] ∙ last;
-}
+  }
+
+  lines_left : read_lines admit before (lines_in so.text) ≡ read_lines admit now (leading_lines w count)
+  lines_left =
+      ap (λ bytes. read_lines admit before (lines_in bytes)) (sym (append-nil so.text)) ∙ so.reads []
+      ∙ ap (read_lines admit now) (last_lines w count all)
+
+  pub read_whole : (end : ℕ) → read_lines admit now (leading_lines w count) ≡ Ok after → end ≡ leading_end w count
+      → IsFedReading admit limit old new before after (Ok end)
+  read_whole end read number = record {
+    text = so.text;
+    is_text = whole_text;
+    reads = (lines_left ∙ read, number ∙ sym (last_end w count all) ∙ sym (so.ends []) ∙ ap end_of (append-nil so.text));
+  }
+
+  pub read_faulty : (error : OrMemory LineFault) → Leaves {A = ℕ} after (Err error) (read_lines admit now (leading_lines w count))
+      → IfFed (Err (fed_fault error)) (IsFedReading admit limit old new before after)
+  read_faulty (Fault fault) read = record { text = so.text; is_text = whole_text; reads = lines_left ∙ read }
+  read_faulty OutOfMemory read = tt
 
 -- a line is invalid, and the remainder of the text was dropped
 pub read_invalid : {S : Type 0} (admit : S → List ℕ → Result S TextKind) (before now after : S) (w : WaitingView) (rest limit : ℕ)
@@ -295,12 +302,3 @@ read_invalid admit before now after w rest limit old mid new fault so bad all co
   };
   reads = so.reads all.bytes ∙ bad all.bytes;
 }
-
-pub last_reported : {S : Type 0} (admit : S → List ℕ → Result S TextKind) (before now after : S) (w : WaitingView) (rest limit : ℕ)
-    (old new : FeedState) (result : Result (Result ℕ LineFault) SlurpFault)
-    → SoFar admit before now w rest (limit + 1) old.remaining new.remaining → 0 < rest → new.given - old.given + rest ≡ limit + 1
-    → IfSome new.remaining (λ bytes. bytes ≡ []) → IfOk result (IsLastReading admit now after w)
-    → IfOk result (IsFedReading admit limit old new before after)
-last_reported admit before now after w rest limit old new (Ok answer) so some counts none last =
-    read_whole admit before now after w rest limit old new answer so some counts none last
-last_reported admit before now after w rest limit old new (Err fault) so some counts none last = tt

@@ -1,6 +1,7 @@
 //! Reads the lines of a text while a feed gives it.
 
-ghost use Rattle.std.specs.Prelude.{◌≤◌, ℕ, List, length, IfOk, OnOk, IfSome};
+ghost use Rattle.std.specs.Prelude.{◌≤◌, ℕ, List, length, OnOk, IfSome};
+ghost use Rattle.devices.specs.feeds.Fed.{IfFed, feed_end};
 ghost use Rattle.devices.specs.feeds.ReadWhole.{ReadsFeed};
 ghost use Rattle.devices.specs.declared.feeds.slurp.TheConstants.{LARGEST_LIMIT};
 ghost use Rattle.text_lines.specs.Fed.{IsFedReading, IsTextOf};
@@ -8,25 +9,26 @@ ghost use Rattle.text_lines.specs.Fed.{IsFedReading, IsTextOf};
 use crate::line_by_line::Admit;
 use crate::text_fault::LineFault;
 use crate::waiting::Waiting;
+use devices::feeds::fed_fault::FedFault;
 use devices::feeds::feed::Feed;
 use devices::feeds::slurp::SlurpFault;
 use pit_units::OrMemory;
 use std::alloc::Global;
 
-/// The result of reading a feed's text: what its lines specify or the first invalid line, if the feed was read to its end.
-pub type FedResult<T, F = LineFault> = Result<Result<T, F>, SlurpFault>;
+/// What the lines of a feed's text specify, or the first invalid line, or why the feed was not read to its end.
+pub type FedResult<T> = Result<T, FedFault<LineFault>>;
 
 /// Passes the lines of a feed's text that are not skipped to `state`, while the feed gives it. Returns the number of the line after the
-/// last, or the first invalid line. In both cases the feed is read to its end: the bytes after an invalid line are dropped. Reads at most
-/// `limit + 1` bytes. Memory grows with the longest line, and not with the text.
+/// last. Reads at most `limit + 1` bytes. Memory grows with the longest line, and not with the text.
 ///
 /// # Errors
 ///
-/// Returns the first that occurs:
+/// Returns the first `Unread` error that occurs, otherwise `Text`:
 ///
 /// - `FeedFailed`: the feed refused a pull of this call;
 /// - `TooLong`: the feed has more than `limit` bytes, whatever its lines specify;
-/// - `OutOfMemory`: memory was refused, for the bytes of a line or by `state`.
+/// - `OutOfMemory`: memory was refused, for the bytes of a line or by `state`;
+/// - `Text`: the first invalid line. The feed is read to its end: the bytes after the line are dropped.
 #[tactic(auto, using(crate::proofs::GivenFacts::stands_on))]
 pub fn read_fed<S: Admit, F: Feed>(
     alloc: Global,
@@ -37,11 +39,11 @@ pub fn read_fed<S: Admit, F: Feed>(
     requires { limit ≤ LARGEST_LIMIT }
 
     // The result in terms of the text.
-    ensures read { IfOk result
+    ensures read { IfFed result
         (IsFedReading S.admit_line limit (F.state feed.old) (F.state feed.new) state.old state.new) }
 
     // After success no byte is left; each error has its reason; the number of bytes read is bounded.
-    ensures reads { ReadsFeed limit (F.state feed.old) (F.state feed.new) result }
+    ensures reads { ReadsFeed limit (F.state feed.old) (F.state feed.new) (feed_end result) }
 {
     let mut waiting = Waiting::new(alloc);
     let mut rest = limit as usize + 1;
@@ -49,22 +51,22 @@ pub fn read_fed<S: Admit, F: Feed>(
         let before = waiting.len();
         let count = waiting.pull(feed, rest)?;
         if count == 0 {
-            return waiting.take_last(state);
+            return Ok(waiting.read_leading(state, waiting.len())?);
         }
         rest -= count;
         if rest == 0 {
-            return Err(SlurpFault::TooLong);
+            return Err(FedFault::Unread(SlurpFault::TooLong));
         }
         match waiting.take_ended(state, before) {
             Ok(()) => {}
             Err(OrMemory::Fault(fault)) => {
                 waiting.pass(feed, rest - 1)?;
-                return Ok(Err(fault));
+                return Err(FedFault::Text(fault));
             }
-            Err(OrMemory::OutOfMemory) => return Err(SlurpFault::OutOfMemory),
+            Err(OrMemory::OutOfMemory) => return Err(FedFault::Unread(SlurpFault::OutOfMemory)),
         }
     }
-    Err(SlurpFault::TooLong)
+    Err(FedFault::Unread(SlurpFault::TooLong))
 }
 
 /// Reads the text of a feed to its end and drops it, whatever its lines specify, under the same limit. Memory does not grow with the

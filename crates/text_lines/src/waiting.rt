@@ -1,15 +1,13 @@
 //! The bytes of a feed whose lines were not read yet.
 
-ghost use Rattle.std.specs.Prelude.{◌≡◌, ◌+◌, ◌-◌, ◌<◌, ◌≤◌, ◌^◌, length, take, IfOk, IfErr, OnOk, drop, true};
+ghost use Rattle.std.specs.Prelude.{◌≡◌, ◌+◌, ◌-◌, ◌<◌, ◌≤◌, ◌^◌, length, take, IfOk, OnOk, drop, true};
 ghost use Rattle.devices.specs.feeds.ReadWhole.{ReadsFeed};
-ghost use Rattle.devices.specs.declared.feeds.slurp.SlurpFault.TheVariants as SlurpFault;
 ghost use Rattle.devices.specs.declared.feeds.slurp.TheConstants.{LARGEST_LIMIT};
 ghost use Rattle.text_lines.specs.Reading.{Leaves, read_lines};
 ghost use Rattle.text_lines.specs.TextLines.{lines_of, numbered_lines};
-ghost use Rattle.text_lines.specs.inner.Waiting.{AreWholeLines, GaveAll, Held, IsLastReading, IsPulledOnce, NoLineEnd, TakesEnded, leading_end, leading_lines, none_held, unmarked};
+ghost use Rattle.text_lines.specs.inner.Waiting.{AreWholeLines, GaveAll, Held, IsPulledOnce, NoLineEnd, TakesEnded, leading_end, leading_lines, none_held, unmarked};
 
 use crate::cut_lines::without_mark;
-use crate::fed_lines::FedResult;
 use crate::line_by_line::{Admit, read_on};
 use crate::text_fault::LineFault;
 use devices::feeds::feed::Feed;
@@ -131,21 +129,8 @@ impl Waiting {
         Ok(())
     }
 
-    /// Reads the lines of the held bytes, which end the text, and returns the number of the line after the last.
-    pub fn take_last<S: Admit>(&self, state: &mut S) -> FedResult<u64>
-        requires few { self.now.number + length self.now.held < 2 ^ 64 }
-        ensures read { IfOk result (IsLastReading S.admit_line state.old state.new self.now) }
-        ensures memory { IfErr result (λ fault. fault ≡ SlurpFault.OutOfMemory) }
-    {
-        match self.read_leading(state, self.len()) {
-            Ok(end) => Ok(Ok(end)),
-            Err(OrMemory::Fault(fault)) => Ok(Err(fault)),
-            Err(OrMemory::OutOfMemory) => Err(SlurpFault::OutOfMemory),
-        }
-    }
-
-    // Reads the lines of the first held bytes, and returns the number of the line after the last.
-    fn read_leading<S: Admit>(
+    /// Reads the lines of the first `count` held bytes, and returns the number of the line after the last.
+    pub fn read_leading<S: Admit>(
         &self,
         state: &mut S,
         count: usize,

@@ -110,11 +110,6 @@ TakesEnded admit before after old new (Ok _) = Took admit before after old new
 TakesEnded admit before after old new (Err (Fault fault)) = HasInvalidLine admit before old fault
 TakesEnded admit before after old new (Err OutOfMemory) = Unit {0}
 
--- the held bytes end the text: their lines were read, or one of them is invalid
-abbrev pub IsLastReading : {S : Type 0} → (S → List ℕ → Result S TextKind) → S → S → WaitingView → Result ℕ LineFault → Type 0
-IsLastReading admit before after w (Ok end) = (read_lines admit before (lines_to_come w []) ≡ Ok after) × (end ≡ end_to_come w [])
-IsLastReading admit before after w (Err fault) = read_lines admit before (lines_to_come w []) ≡ Err fault
-
 -- the progress of reading a feed that may still give `rest` of `most` bytes: whatever bytes follow, the lines to come continue from this
 -- state
 pub record SoFar {S : Type 0} (admit : S → List ℕ → Result S TextKind) (before now : S) (w : WaitingView) (rest most : ℕ)

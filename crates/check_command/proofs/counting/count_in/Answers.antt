@@ -1,43 +1,49 @@
+use Rattle.std.proofs.Common.{Err, Ok}
+use Rattle.std.proofs.lemmas.Result.{err_from_is_err_and}
 use Rattle.devices.specs.declared.feeds.slurp.TheConstants.{LARGEST_LIMIT}
 use Rattle.check_command.proofs.CountedAll.{arcs_reported, blocks_reported, cpit_reported, model_reported}
 use Rattle.check_command.proofs.counting.count_in.Goals as goal
 
-pub returns-in-Ok-clause-counts : goal.returns-in-Ok-clause-counts
-returns-in-Ok-clause-counts g c =
-    let reported = blocks_reported LARGEST_LIMIT (g.F.Feed.state c.args.feed.now) _ c.args.counts _ c.in_ok-blocks-in-Blocks.ensures.counts in
-    rw c.in-Blocks.is (rw c.in-Ok.is at reported)
+pub returns-in_ok-blocks-in-Blocks-clause-counts : goal.returns-in_ok-blocks-in-Blocks-clause-counts
+returns-in_ok-blocks-in-Blocks-clause-counts g c =
+    rw c.in-Blocks.is
+    (blocks_reported LARGEST_LIMIT (g.F.Feed.state c.args.feed.now) _ c.args.counts (Ok c.in_ok-blocks-in-Blocks.blocks) c.in_ok-blocks-in-Blocks.ensures.counts)
 
-pub returns-in-Err-clause-counts : goal.returns-in-Err-clause-counts
-returns-in-Err-clause-counts g c =
-    let reported = blocks_reported LARGEST_LIMIT (g.F.Feed.state c.args.feed.now) _ c.args.counts _ c.in_ok-blocks-in-Blocks.ensures.counts in
-    rw c.in-Blocks.is (rw c.in-Err.is at reported)
+pub returns-in_err-blocks-in-Blocks-clause-counts : goal.returns-in_err-blocks-in-Blocks-clause-counts
+returns-in_err-blocks-in-Blocks-clause-counts g c =
+    let exit = err_from_is_err_and c.from_residual.result c.from_residual.ensures.1 in
+    rw (exit.1, exit.2, c.in-Blocks.is)
+    (blocks_reported LARGEST_LIMIT (g.F.Feed.state c.args.feed.now) _ c.args.counts (Err c.in_err-blocks-in-Blocks.field-0.0) c.in_err-blocks-in-Blocks.ensures.counts)
 
-pub returns-in-Ok-2-clause-counts : goal.returns-in-Ok-2-clause-counts
-returns-in-Ok-2-clause-counts g c =
-    let reported = arcs_reported LARGEST_LIMIT (g.F.Feed.state c.args.feed.now) _ c.args.counts _ c.in_ok-arcs-in-Prec.ensures.counts in
-    rw c.in-Prec.is (rw c.in-Ok-2.is at reported)
+pub returns-in_ok-arcs-in-Prec-clause-counts : goal.returns-in_ok-arcs-in-Prec-clause-counts
+returns-in_ok-arcs-in-Prec-clause-counts g c =
+    rw c.in-Prec.is
+    (arcs_reported LARGEST_LIMIT (g.F.Feed.state c.args.feed.now) _ c.args.counts (Ok c.in_ok-arcs-in-Prec.arcs) c.in_ok-arcs-in-Prec.ensures.counts)
 
-pub returns-in-Err-2-clause-counts : goal.returns-in-Err-2-clause-counts
-returns-in-Err-2-clause-counts g c =
-    let reported = arcs_reported LARGEST_LIMIT (g.F.Feed.state c.args.feed.now) _ c.args.counts _ c.in_ok-arcs-in-Prec.ensures.counts in
-    rw c.in-Prec.is (rw c.in-Err-2.is at reported)
+pub returns-in_err-arcs-in-Prec-clause-counts : goal.returns-in_err-arcs-in-Prec-clause-counts
+returns-in_err-arcs-in-Prec-clause-counts g c =
+    let exit = err_from_is_err_and c.from_residual-in_err-arcs-in-Prec.result c.from_residual-in_err-arcs-in-Prec.ensures.1 in
+    rw (exit.1, exit.2, c.in-Prec.is)
+    (arcs_reported LARGEST_LIMIT (g.F.Feed.state c.args.feed.now) _ c.args.counts (Err c.in_err-arcs-in-Prec.field-0.0) c.in_err-arcs-in-Prec.ensures.counts)
 
-pub returns-in-Ok-3-clause-counts : goal.returns-in-Ok-3-clause-counts
-returns-in-Ok-3-clause-counts g c =
-    let reported = model_reported LARGEST_LIMIT (g.F.Feed.state c.args.feed.now) _ c.args.counts _ c.in_ok-coefficients-in-Pcpsp.ensures.counts in
-    rw c.in-Pcpsp.is (rw c.in-Ok-3.is at reported)
+pub returns-in_ok-coefs-in-Pcpsp-clause-counts : goal.returns-in_ok-coefs-in-Pcpsp-clause-counts
+returns-in_ok-coefs-in-Pcpsp-clause-counts g c =
+    rw c.in-Pcpsp.is
+    (model_reported LARGEST_LIMIT (g.F.Feed.state c.args.feed.now) _ c.args.counts (Ok (c.in_ok-coefs-in-Pcpsp.coefs, c.in_ok-coefs-in-Pcpsp.limits)) c.in_ok-coefs-in-Pcpsp.ensures.counts)
 
-pub returns-in-Err-3-clause-counts : goal.returns-in-Err-3-clause-counts
-returns-in-Err-3-clause-counts g c =
-    let reported = model_reported LARGEST_LIMIT (g.F.Feed.state c.args.feed.now) _ c.args.counts _ c.in_ok-coefficients-in-Pcpsp.ensures.counts in
-    rw c.in-Pcpsp.is (rw c.in-Err-3.is at reported)
+pub returns-in_err-coefs-in-Pcpsp-clause-counts : goal.returns-in_err-coefs-in-Pcpsp-clause-counts
+returns-in_err-coefs-in-Pcpsp-clause-counts g c =
+    let exit = err_from_is_err_and c.from_residual-in_err-coefs-in-Pcpsp.result c.from_residual-in_err-coefs-in-Pcpsp.ensures.1 in
+    rw (exit.1, exit.2, c.in-Pcpsp.is)
+    (model_reported LARGEST_LIMIT (g.F.Feed.state c.args.feed.now) _ c.args.counts (Err c.in_err-coefs-in-Pcpsp.field-0.0) c.in_err-coefs-in-Pcpsp.ensures.counts)
 
-pub returns-in-Ok-4-clause-counts : goal.returns-in-Ok-4-clause-counts
-returns-in-Ok-4-clause-counts g c =
-    let reported = cpit_reported LARGEST_LIMIT (g.F.Feed.state c.args.feed.now) _ c.args.counts _ c.in_ok-coefficients-in-Cpit.ensures.counts in
-    rw c.in-Cpit.is (rw c.in-Ok-4.is at reported)
+pub returns-in_ok-coefs-in-Cpit-clause-counts : goal.returns-in_ok-coefs-in-Cpit-clause-counts
+returns-in_ok-coefs-in-Cpit-clause-counts g c =
+    rw c.in-Cpit.is
+    (cpit_reported LARGEST_LIMIT (g.F.Feed.state c.args.feed.now) _ c.args.counts (Ok (c.in_ok-coefs-in-Cpit.coefs, c.in_ok-coefs-in-Cpit.field-0-1)) c.in_ok-coefs-in-Cpit.ensures.counts)
 
-pub returns-in-Err-4-clause-counts : goal.returns-in-Err-4-clause-counts
-returns-in-Err-4-clause-counts g c =
-    let reported = cpit_reported LARGEST_LIMIT (g.F.Feed.state c.args.feed.now) _ c.args.counts _ c.in_ok-coefficients-in-Cpit.ensures.counts in
-    rw c.in-Cpit.is (rw c.in-Err-4.is at reported)
+pub returns-in_err-coefs-in-Cpit-clause-counts : goal.returns-in_err-coefs-in-Cpit-clause-counts
+returns-in_err-coefs-in-Cpit-clause-counts g c =
+    let exit = err_from_is_err_and c.from_residual-in_err-coefs-in-Cpit.result c.from_residual-in_err-coefs-in-Cpit.ensures.1 in
+    rw (exit.1, exit.2, c.in-Cpit.is)
+    (cpit_reported LARGEST_LIMIT (g.F.Feed.state c.args.feed.now) _ c.args.counts (Err c.in_err-coefs-in-Cpit.field-0.0) c.in_err-coefs-in-Cpit.ensures.counts)

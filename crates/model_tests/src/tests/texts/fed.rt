@@ -3,13 +3,15 @@
 ghost use Rattle.std.specs.Prelude.{◌≤◌};
 
 use super::{CPIT, PCPSP};
+use devices::feeds::fed_fault::FedFault;
 use devices::feeds::mem_feed::MemFeed;
 use devices::feeds::slurp::{LARGEST_LIMIT, SlurpFault};
 use minelib_lines::problem::Problem;
 use minelib_reading::{count_arcs, count_blocks, count_model};
 use std::alloc::{AllocError, Global};
 use std::test::Fail;
-use text_lines::text_fault::{LineFault, TextKind};
+use text_lines::fed_lines::FedResult;
+use text_lines::text_fault::TextKind;
 
 // The count of a text, or the line and the kind of its first fault.
 type Counted = Result<usize, (u64, TextKind)>;
@@ -58,10 +60,12 @@ fn cutting(alloc: Global, text: &[u8], step: usize) -> Result<MemFeed, AllocErro
     Ok(MemFeed::cutting(text.to_vec(alloc)?, step))
 }
 
-fn is_counted(answer: &Result<Result<usize, LineFault>, SlurpFault>, wanted: &Counted) -> bool {
+fn is_counted(answer: &FedResult<usize>, wanted: &Counted) -> bool {
     match (answer, wanted) {
-        (Ok(Ok(count)), Ok(other)) => *count == *other,
-        (Ok(Err(fault)), Err((line, kind))) => fault.line == *line && fault.kind == *kind,
+        (Ok(count), Ok(other)) => *count == *other,
+        (Err(FedFault::Text(fault)), Err((line, kind))) => {
+            fault.line == *line && fault.kind == *kind
+        }
         _ => false,
     }
 }
@@ -98,10 +102,10 @@ fn models_in_pieces(rt: HostRuntime) -> Result<(), Fail> {
     for step in STEPS {
         let mut feed = cutting(alloc, PCPSP.as_bytes(), step)?;
         let answer = count_model(alloc, Problem::Pcpsp, 2, &mut feed, LARGEST_LIMIT);
-        assert!(rt; answer == Ok(Ok((1, 2))), "pcpsp {step}");
+        assert!(rt; answer == Ok((1, 2)), "pcpsp {step}");
         let mut feed = cutting(alloc, CPIT.as_bytes(), step)?;
         let answer = count_model(alloc, Problem::Cpit, 2, &mut feed, LARGEST_LIMIT);
-        assert!(rt; answer == Ok(Ok((1, 2))), "cpit {step}");
+        assert!(rt; answer == Ok((1, 2)), "cpit {step}");
     }
     Ok(())
 }
@@ -128,8 +132,8 @@ fn faults_of_feeds_come_first(rt: HostRuntime) -> Result<(), Fail> {
         };
         let answer = count_blocks(alloc, &mut feed, *limit);
         let is_answer = match (&answer, before) {
-            (Ok(Err(fault)), None) => fault.line == 1 && fault.kind == TextKind::Fields,
-            (Err(fault), Some(other)) => *fault == *other,
+            (Err(FedFault::Text(fault)), None) => fault.line == 1 && fault.kind == TextKind::Fields,
+            (Err(FedFault::Unread(fault)), Some(other)) => *fault == *other,
             _ => false,
         };
         assert!(rt; is_answer, "{nth} {limit}");

@@ -1,6 +1,7 @@
 use Rattle.std.proofs.Common.{rules, ◌≡◌, ◌≢◌, ◌+◌, ◌-◌, ◌≤◌, ◌∙◌, length, ap, refl, subst, arith, Err}
+use Rattle.std.proofs.lemmas.Result.{err_from_is_err_and}
 use Rattle.text_lines.specs.inner.Waiting.{GaveAll}
-use Rattle.text_lines.proofs.FedSteps.{fails_after, held_more, last_reported, long_reported, none_after, none_yet, read_invalid, refused_text, took_more}
+use Rattle.text_lines.proofs.FedSteps.{fails_after, held_more, long_reported, none_yet, read_faulty, read_invalid, read_whole, refused_text, took_more}
 use Rattle.text_lines.proofs.GivenFacts.{stands_first, stands_on}
 use Rattle.text_lines.proofs.LineEnds.{prefix_held}
 use Rattle.text_lines.proofs.fed_lines.read_fed.Goals as goal
@@ -17,16 +18,23 @@ loop-rest-init g c = record {
 
 pub returns-then-count-eq0-clause-read : goal.returns-then-count-eq0-clause-read
 returns-then-count-eq0-clause-read g c =
-    let admit = g.S.Admit.admit_line in
-    let n = c.in_ok-count.count in
-    let held = c.in_ok-count.ensures.held in
-    let zero : n ≡ 0 = c.if-count-eq0.true in
-    let so = held_more admit c.args.state.now c.loop-rest.state c.loop-rest.waiting c.pull.new.self c.loop-rest.rest (c.loop-rest.rest - n) n
-    (c.args.limit + 1) _ _ _ c.loop-rest.invariant.so_far held (omega (arith, c.in_ok-count.ensures.within)) in
-    last_reported admit c.args.state.now c.loop-rest.state c.take_last.new.state c.pull.new.self (c.loop-rest.rest - n) c.args.limit _ _
-    c.take_last.result so (omega (arith, zero, c.loop-rest-test.true))
-    (omega (arith, zero, c.loop-rest.invariant.counts, c.loop-rest.invariant.so_far.count, c.in_ok-count.ensures.pulls.counts))
-    (none_after _ _ held.bytes held.remaining (held.count ∙ zero) (c.in_ok-count.ensures.pulls.end zero)) c.take_last.ensures.read
+    read_whole g.S.Admit.admit_line c.args.state.now c.loop-rest.state c.read_leading.new.state c.loop-rest.waiting c.pull.new.self c.loop-rest.rest
+    c.in_ok-count.count c.args.limit c.len.result _ (g.F.Feed.state c.loop-rest.feed) _ c.loop-rest.invariant.so_far c.in_ok-count.ensures.held
+    c.if-count-eq0.true c.loop-rest-test.true
+    (omega (arith, c.if-count-eq0.true, c.loop-rest.invariant.counts, c.loop-rest.invariant.so_far.count, c.in_ok-count.ensures.pulls.counts))
+    (c.in_ok-count.ensures.pulls.end c.if-count-eq0.true) (omega (arith, c.len.ensures))
+    c.in_ok-read_leading.field-0 c.in_ok-read_leading.ensures.read c.in_ok-read_leading.ensures.number
+
+pub returns-in_err-read_leading-clause-read : goal.returns-in_err-read_leading-clause-read
+returns-in_err-read_leading-clause-read g c =
+    let exit = err_from_is_err_and c.from_residual-in_err-read_leading.result c.from_residual-in_err-read_leading.ensures.1 in
+    rw (exit.1, exit.2)
+    (read_faulty g.S.Admit.admit_line c.args.state.now c.loop-rest.state c.read_leading.new.state c.loop-rest.waiting c.pull.new.self c.loop-rest.rest
+    c.in_ok-count.count c.args.limit c.len.result _ (g.F.Feed.state c.loop-rest.feed) _ c.loop-rest.invariant.so_far c.in_ok-count.ensures.held
+    c.if-count-eq0.true c.loop-rest-test.true
+    (omega (arith, c.if-count-eq0.true, c.loop-rest.invariant.counts, c.loop-rest.invariant.so_far.count, c.in_ok-count.ensures.pulls.counts))
+    (c.in_ok-count.ensures.pulls.end c.if-count-eq0.true) (omega (arith, c.len.ensures))
+    c.in_err-read_leading.field-0.0 c.in_err-read_leading.ensures.read)
 
 pub loop-rest-preserved : goal.loop-rest-preserved
 loop-rest-preserved g c =
@@ -110,8 +118,9 @@ returns-in_err-pass-in-Err-Fault-clause-reads g c =
     omega (arith, inv.counts, counts, c.in_ok-count.ensures.within, so.count) in
     let begun : (g.F.Feed.state c.args.feed.now).given ≤ (g.F.Feed.state c.loop-rest.feed).given = omega (arith, inv.counts, inv.so_far.count) in
     let was : c.pass.result ≡ Err c.in_err-pass-in-Err-Fault.field-0.0 = search rules in
-    let is : c.from_residual-in_err-pass-in-Err-Fault.result ≡ Err c.in_err-pass-in-Err-Fault.field-0.0 = search rules in
-    refused_text c.args.limit (g.F.Feed.state c.args.feed.now) (g.F.Feed.state c.pass.new.feed) _ _ is
+    let exit = err_from_is_err_and c.from_residual-in_err-pass-in-Err-Fault.result c.from_residual-in_err-pass-in-Err-Fault.ensures.1 in
+    rw (exit.1, exit.2)
+    (refused_text c.args.limit (g.F.Feed.state c.args.feed.now) (g.F.Feed.state c.pass.new.feed) _ _ refl
     (fails_after (g.F.Feed.state c.args.feed.now) (g.F.Feed.state c.pull.new.feed) (g.F.Feed.state c.pass.new.feed) so.text c.args.limit
     (c.loop-rest.rest - n - 1) _ so.gave (omega (arith, so.count, some)) given (c.in_ok-count.ensures.pulls.works ∙ inv.works)
     c.in_err-pass-in-Err-Fault.ensures.reads.refused)
@@ -121,4 +130,4 @@ returns-in_err-pass-in-Err-Fault-clause-reads g c =
     passes.onward
     (stands_on (g.F.Feed.state c.args.feed.now) (g.F.Feed.state c.loop-rest.feed) (g.F.Feed.state c.pull.new.feed) begun pulls.onward inv.stands pulls.stands)
     passes.stands)
-    (λ s. passes.stays_sure (pulls.stays_sure (inv.sure s)))
+    (λ s. passes.stays_sure (pulls.stays_sure (inv.sure s))))
