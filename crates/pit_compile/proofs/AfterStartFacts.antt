@@ -2,8 +2,8 @@
 use Rattle.std.proofs.Common.{◌≡◌, ℕ, ◌+◌, List, [], ◌∷◌, Option, Some, None, Ok, Err, refl, subst}
 use Rattle.std.specs.Option.{option_or}
 use Rattle.rows.specs.declared.item.Valued.{Valued}
+use Rattle.devices.specs.declared.feeds.fed_fault.FedFault.TheVariants.{Unread, Text}
 use Rattle.devices.specs.declared.feeds.slurp.SlurpFault.TheVariants as slurp
-use Rattle.pit_units.specs.declared.or_memory.OrMemory.TheVariants as row
 use Rattle.run_threads.specs.Reading.{ReadAnswer}
 use Rattle.pit_compile.specs.inner.AfterStart.{IsAfterStart}
 use Rattle.pit_compile.specs.inner.ReadAnswers.{refusal_in, refusal_of}
@@ -12,12 +12,11 @@ use Rattle.refusals.specs.declared.refusal.Refusal.{Refusal}
 use Rattle.refusals.specs.declared.refusal.Refusal.TheVariants.{Settings, NoThread, FeedFailed, TooLong, Row, Same, SinkFailed, OutOfMemory}
 
 after_reading : (file : ℕ) (answer : ReadAnswer) (refusal : Refusal) → refusal_of file answer ≡ Some refusal → IsAfterStart refusal
-after_reading file (Ok (Ok done)) refusal e = absurd cc
-after_reading file (Ok (Err (row.Fault fault))) refusal e = let is : Row file fault ≡ refusal = cc in subst IsAfterStart is tt
-after_reading file (Ok (Err row.OutOfMemory)) refusal e = let is : OutOfMemory ≡ refusal = cc in subst IsAfterStart is tt
-after_reading file (Err slurp.FeedFailed) refusal e = let is : FeedFailed file ≡ refusal = cc in subst IsAfterStart is tt
-after_reading file (Err slurp.TooLong) refusal e = let is : TooLong file ≡ refusal = cc in subst IsAfterStart is tt
-after_reading file (Err slurp.OutOfMemory) refusal e = let is : OutOfMemory ≡ refusal = cc in subst IsAfterStart is tt
+after_reading file (Ok done) refusal e = absurd cc
+after_reading file (Err (Text fault)) refusal e = let is : Row file fault ≡ refusal = cc in subst IsAfterStart is tt
+after_reading file (Err (Unread slurp.FeedFailed)) refusal e = let is : FeedFailed file ≡ refusal = cc in subst IsAfterStart is tt
+after_reading file (Err (Unread slurp.TooLong)) refusal e = let is : TooLong file ≡ refusal = cc in subst IsAfterStart is tt
+after_reading file (Err (Unread slurp.OutOfMemory)) refusal e = let is : OutOfMemory ≡ refusal = cc in subst IsAfterStart is tt
 
 -- the first of two, or else the second
 after_either : (own later : Option Refusal) (refusal : Refusal) → ((r : Refusal) → own ≡ Some r → IsAfterStart r)

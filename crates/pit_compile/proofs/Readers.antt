@@ -13,8 +13,8 @@ use Rattle.run_threads.specs.MostBytes.{most_bytes}
 use Rattle.run_threads.specs.Reading.{AreRead, IsRead, IsReadTo, ReadAnswer}
 use Rattle.run_threads.specs.Refusing.{HasFailed}
 use Rattle.devices.specs.feeds.FeedState.{FeedState, all_remaining}
+use Rattle.devices.specs.declared.feeds.fed_fault.FedFault.TheVariants.{Unread, Text}
 use Rattle.devices.specs.declared.feeds.slurp.SlurpFault.TheVariants as slurp
-use Rattle.pit_units.specs.declared.or_memory.OrMemory.TheVariants as row
 use Rattle.zone_csv.specs.Zone.{blocks_of}
 use Rattle.zone_csv.specs.declared.row_fault.RowFault.{RowFault}
 use Rattle.pit_compile.specs.inner.ReadAnswers.{refusal_in, refusal_of}
@@ -131,13 +131,12 @@ module _ {F : Type 0} (state : F → FeedState) where
       → AreRead state grid n feeds answers sents
       → MatchOption (refusal_in n answers) (AreAllRead grid n (all_remaining state feeds) sents) (IsFirstUnread grid n feeds)
   states grid n [] [] [] h = record { texts = []; given = tt; no_fault = refl; sent = refl }
-  states grid n (f ∷ fs) (Ok (Ok done) ∷ answers) (s ∷ ss) h =
+  states grid n (f ∷ fs) (Ok done ∷ answers) (s ∷ ss) h =
       after_read grid n f fs s ss h.0 (refusal_in (n + 1) answers) (states grid (n + 1) fs answers ss h.1)
-  states grid n (f ∷ fs) (Ok (Err (row.Fault fault)) ∷ answers) (s ∷ ss) h = first_unread grid n f fs (Ok (Err (row.Fault fault))) s (Row n fault) h.0 refl
-  states grid n (f ∷ fs) (Ok (Err row.OutOfMemory) ∷ answers) (s ∷ ss) h = first_unread grid n f fs (Ok (Err row.OutOfMemory)) s OutOfMemory h.0 refl
-  states grid n (f ∷ fs) (Err slurp.FeedFailed ∷ answers) (s ∷ ss) h = first_unread grid n f fs (Err slurp.FeedFailed) s (FeedFailed n) h.0 refl
-  states grid n (f ∷ fs) (Err slurp.TooLong ∷ answers) (s ∷ ss) h = first_unread grid n f fs (Err slurp.TooLong) s (TooLong n) h.0 refl
-  states grid n (f ∷ fs) (Err slurp.OutOfMemory ∷ answers) (s ∷ ss) h = first_unread grid n f fs (Err slurp.OutOfMemory) s OutOfMemory h.0 refl
+  states grid n (f ∷ fs) (Err (Text fault) ∷ answers) (s ∷ ss) h = first_unread grid n f fs (Err (Text fault)) s (Row n fault) h.0 refl
+  states grid n (f ∷ fs) (Err (Unread slurp.FeedFailed) ∷ answers) (s ∷ ss) h = first_unread grid n f fs (Err (Unread slurp.FeedFailed)) s (FeedFailed n) h.0 refl
+  states grid n (f ∷ fs) (Err (Unread slurp.TooLong) ∷ answers) (s ∷ ss) h = first_unread grid n f fs (Err (Unread slurp.TooLong)) s (TooLong n) h.0 refl
+  states grid n (f ∷ fs) (Err (Unread slurp.OutOfMemory) ∷ answers) (s ∷ ss) h = first_unread grid n f fs (Err (Unread slurp.OutOfMemory)) s OutOfMemory h.0 refl
   states grid n _ _ _ h = absurd h
 
   pub all_read : (grid : Grid) (feeds : List F) (answers : List ReadAnswer) (sents : List (List Taken))
@@ -158,13 +157,12 @@ module _ {F : Type 0} (state : F → FeedState) where
 
       by : (answer : ReadAnswer) → IsRead state plan.grid file h.of.feed answer h.of.sent
           → refusal_of file answer ≡ Some refusal → Why refusal
-      by (Ok (Ok done)) e is = absurd cc
-      by (Ok (Err (row.Fault fault))) e is =
+      by (Ok done) e is = absurd cc
+      by (Err (Text fault)) e is =
           let found = h.found e.text (Row file fault) (fault_read plan.grid file (state h.of.feed).remaining (Some fault) h.of.sent e) in
           let own : Row file fault ≡ refusal = cc in
           subst Why own (record { texts = h.texts e.text; given = h.given e.text e.given; refused = found })
-      by (Ok (Err row.OutOfMemory)) e is = let own : OutOfMemory ≡ refusal = cc in subst Why own tt
-      by (Err slurp.FeedFailed) e is =
+      by (Err (Unread slurp.FeedFailed)) e is =
           let same : h.following ≡ h.of.file = omega (arith, h.is_file) in
           let some = some_text (state h.of.feed).remaining in
           let why : IsNotCompiled plan (all_remaining state feeds) (HasFailed state feeds) (FeedFailed file) = record {
@@ -175,12 +173,12 @@ module _ {F : Type 0} (state : F → FeedState) where
           } in
           let own : FeedFailed file ≡ refusal = cc in
           subst Why own why
-      by (Err slurp.TooLong) e is =
+      by (Err (Unread slurp.TooLong)) e is =
           let long = long_text (state h.of.feed).remaining e in
           let found = h.found long.0 (TooLong file) (too_long plan.grid file long.0 long.2) in
           let own : TooLong file ≡ refusal = cc in
           subst Why own (record { texts = h.texts long.0; given = h.given long.0 long.1; refused = found })
-      by (Err slurp.OutOfMemory) e is = let own : OutOfMemory ≡ refusal = cc in subst Why own tt
+      by (Err (Unread slurp.OutOfMemory)) e is = let own : OutOfMemory ≡ refusal = cc in subst Why own tt
 
   pub not_read : (plan : PlanParts) (feeds : List F) (answers : List ReadAnswer) (sents : List (List Taken))
       (refusal : Refusal) → AreRead state plan.grid 0 feeds answers sents → refusal_in 0 answers ≡ Some refusal

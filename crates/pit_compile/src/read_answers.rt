@@ -4,8 +4,8 @@ ghost use Rattle.std.specs.Prelude.{◌≡◌, ◌≤◌, None, Some, length, If
 ghost use Rattle.pit_compile.specs.inner.ReadAnswers.{refusal_in, refusal_of};
 ghost use Rattle.plan_parts.specs.declared.ranges.TheConstants.{MAX_ZONES};
 
+use devices::feeds::fed_fault::FedFault;
 use devices::feeds::slurp::SlurpFault;
-use pit_units::OrMemory;
 use refusals::refusal::Refusal;
 use run_threads::ReadResult;
 
@@ -26,14 +26,13 @@ fn require_file(file: u8, answer: &ReadResult) -> Result<(), Refusal>
     ensures refused { IfErr result (λ refusal. refusal_of file answer.now ≡ Some refusal) }
 {
     match answer {
-        Ok(Ok(())) => Ok(()),
-        Ok(Err(OrMemory::Fault(fault))) => Err(Refusal::Row {
+        Ok(()) => Ok(()),
+        Err(FedFault::Text(fault)) => Err(Refusal::Row {
             file,
             fault: *fault,
         }),
-        Ok(Err(OrMemory::OutOfMemory)) => Err(Refusal::OutOfMemory),
-        Err(SlurpFault::FeedFailed) => Err(Refusal::FeedFailed { file }),
-        Err(SlurpFault::TooLong) => Err(Refusal::TooLong { file }),
-        Err(SlurpFault::OutOfMemory) => Err(Refusal::OutOfMemory),
+        Err(FedFault::Unread(SlurpFault::FeedFailed)) => Err(Refusal::FeedFailed { file }),
+        Err(FedFault::Unread(SlurpFault::TooLong)) => Err(Refusal::TooLong { file }),
+        Err(FedFault::Unread(SlurpFault::OutOfMemory)) => Err(Refusal::OutOfMemory),
     }
 }

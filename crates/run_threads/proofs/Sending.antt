@@ -1,8 +1,10 @@
 -- How a reader goes through its zone file, block by block, and what it then did with the file.
-use Rattle.std.proofs.Common.{◌≡◌, ℕ, ◌+◌, ◌<◌, ◌≤◌, true, List, [], ◌∷◌, ◌++◌, length, Option, Some, None, Result, Ok, Err, ap, ◌∙◌, refl, subst, arith, append_assoc, length-append, ⊎_elim}
+use Rattle.std.proofs.Common.{◌≡◌, ℕ, ◌+◌, ◌<◌, ◌≤◌, true, List, [], ◌∷◌, ◌++◌, length, Option, Some, None, Ok, Err, ap, ◌∙◌, refl, subst, arith, append_assoc, length-append, ⊎_elim}
 use Rattle.std.specs.Prelude.{IfSome}
 use Rattle.std.proofs.lemmas.Bool.{cases_Bool}
+use Rattle.devices.specs.feeds.Fed.{fed_fault}
 use Rattle.devices.specs.feeds.FeedState.{FeedState}
+use Rattle.devices.specs.declared.feeds.fed_fault.FedFault.TheVariants.{Unread}
 use Rattle.devices.specs.declared.feeds.slurp.SlurpFault.{SlurpFault}
 use Rattle.devices.specs.declared.feeds.slurp.SlurpFault.TheVariants.{FeedFailed, TooLong}
 use Rattle.devices.specs.declared.feeds.slurp.SlurpFault.TheVariants as slurp
@@ -83,7 +85,7 @@ module _ {F : Type 0} (state : F → FeedState) (grid : Grid) (file : ℕ) (feed
   -- why a feed gave no text
   pub gives_none : (new : F) (fault : SlurpFault) (sent : List Taken) → (fault ≡ FeedFailed → (state new).failures ≡ (state feed).failures + 1)
       → ((state feed).is_sure ≡ true → fault ≡ FeedFailed → ⊥) → (fault ≡ TooLong → IfSome (state feed).remaining (λ bytes. most_bytes < length bytes))
-      → IsRead state grid file feed (Err fault) sent
+      → IsRead state grid file feed (Err (Unread fault)) sent
   gives_none new FeedFailed sent refused unsure long = record {
     unsure = ⊎_elim (λ sure. absurd (unsure sure refl)) (λ other. other) (cases_Bool (state feed).is_sure);
     now = new;
@@ -92,13 +94,13 @@ module _ {F : Type 0} (state : F → FeedState) (grid : Grid) (file : ℕ) (feed
   gives_none new TooLong sent refused unsure long = long refl
   gives_none new slurp.OutOfMemory sent refused unsure long = tt
 
-  -- of the text that a feed gave, what was put with the end mark behind it
-  pub text_read : (text : List ℕ) (answer : Result (Unit {0}) (OrMemory RowFault)) (sent : List Taken)
-      → IfSome (state feed).remaining (λ bytes. text ≡ bytes) → length text ≤ most_bytes
-      → HasPut file (blocks_of grid file text) (fault_of grid file text) answer sent
-      → IsRead state grid file feed (Ok answer) (sent ++ message.End file (length sent) ∷ [])
-  text_read text (Ok done) sent given short put =
-      record { text = text; given = given; short = short; fault_is = put.0; sent_is = put.1 }
-  text_read text (Err (Fault fault)) sent given short put =
-      record { text = text; given = given; short = short; fault_is = put.0; sent_is = put.1 }
-  text_read text (Err OutOfMemory) sent given short put = tt
+  -- of the text that a feed gave, what was put with the end mark after it
+  module _ (text : List ℕ) (sent : List Taken) (given : IfSome (state feed).remaining (λ bytes. text ≡ bytes)) (short : length text ≤ most_bytes) where
+    pub text_read : HasPut file (blocks_of grid file text) (fault_of grid file text) (Ok tt) sent
+        → IsRead state grid file feed (Ok tt) (sent ++ message.End file (length sent) ∷ [])
+    text_read put = record { text = text; given = given; short = short; fault_is = put.0; sent_is = put.1 }
+
+    pub text_stopped : (error : OrMemory RowFault) → HasPut file (blocks_of grid file text) (fault_of grid file text) (Err error) sent
+        → IsRead state grid file feed (Err (fed_fault error)) (sent ++ message.End file (length sent) ∷ [])
+    text_stopped (Fault fault) put = record { text = text; given = given; short = short; fault_is = put.0; sent_is = put.1 }
+    text_stopped OutOfMemory put = tt

@@ -6,16 +6,15 @@ use Rattle.plan_parts.specs.declared.grid.Grid.{Grid}
 use Rattle.zone_csv.specs.Zone.{blocks_of, fault_of}
 use Rattle.zone_csv.specs.declared.row_fault.RowFault.{RowFault}
 use Rattle.devices.specs.feeds.FeedState.{FeedState}
-use Rattle.devices.specs.declared.feeds.slurp.SlurpFault.{SlurpFault}
+use Rattle.devices.specs.declared.feeds.fed_fault.FedFault.{FedFault}
+use Rattle.devices.specs.declared.feeds.fed_fault.FedFault.TheVariants.{Unread, Text}
 use Rattle.devices.specs.declared.feeds.slurp.SlurpFault.TheVariants.{FeedFailed, TooLong, OutOfMemory}
-use Rattle.pit_units.specs.declared.or_memory.OrMemory.{OrMemory}
-use Rattle.pit_units.specs.declared.or_memory.OrMemory.TheVariants as row
 use Rattle.run_threads.specs.MostBytes.{most_bytes}
 use Rattle.run_threads.specs.Refusing.{HasRefused}
 
--- the result of a reader: an error of its feed, or else the error that stopped it in the text, if there was one
+-- the result of a reader: an error of its feed or of the text, if there was one, or out of memory
 abbrev pub ReadAnswer : Type 0
-ReadAnswer = Result (Result (Unit {0}) (OrMemory RowFault)) SlurpFault
+ReadAnswer = Result (Unit {0}) (FedFault RowFault)
 
 -- the reader read a text up to its first fault `fault`, and sent the blocks before the fault. If the feed reports its bytes, the text is
 -- these bytes
@@ -30,12 +29,11 @@ pub record IsReadTo (grid : Grid) (file : ℕ) (remaining : Option (List ℕ)) (
 module _ {F : Type 0} (state : F → FeedState) where
   -- the result of the reader of a feed, and the messages that it sent
   abbrev pub IsRead : Grid → ℕ → F → ReadAnswer → List Taken → Type 0
-  IsRead grid file feed (Ok (Ok done)) sent = IsReadTo grid file (state feed).remaining None sent
-  IsRead grid file feed (Ok (Err (row.Fault fault))) sent = IsReadTo grid file (state feed).remaining (Some fault) sent
-  IsRead grid file feed (Ok (Err row.OutOfMemory)) sent = Unit {0}
-  IsRead grid file feed (Err TooLong) sent = IfSome (state feed).remaining (λ bytes. most_bytes < length bytes)
-  IsRead grid file feed (Err FeedFailed) sent = HasRefused state feed
-  IsRead grid file feed (Err OutOfMemory) sent = Unit {0}
+  IsRead grid file feed (Ok done) sent = IsReadTo grid file (state feed).remaining None sent
+  IsRead grid file feed (Err (Text fault)) sent = IsReadTo grid file (state feed).remaining (Some fault) sent
+  IsRead grid file feed (Err (Unread TooLong)) sent = IfSome (state feed).remaining (λ bytes. most_bytes < length bytes)
+  IsRead grid file feed (Err (Unread FeedFailed)) sent = HasRefused state feed
+  IsRead grid file feed (Err (Unread OutOfMemory)) sent = Unit {0}
 
   -- the same for each of these feeds; the first belongs to file k
   abbrev pub AreRead : Grid → ℕ → List F → List ReadAnswer → List (List Taken) → Type 0

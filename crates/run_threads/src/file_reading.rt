@@ -75,7 +75,8 @@ fn put_file<R: Wait, F: Feed, G: Gate>(
 {
     gate.reader(rt, file);
     let text = slurp(alloc, feed, MAX_FILE_BYTES as u64)?;
-    Ok(put_blocks(rt, alloc, text, plan, file, put_end))
+    put_blocks(rt, alloc, text, plan, file, put_end)?;
+    Ok(())
 }
 
 // Puts a row for each block of the text, up to its end or its first fault.
