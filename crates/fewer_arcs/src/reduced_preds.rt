@@ -3,8 +3,8 @@
 ghost use Rattle.std.specs.Prelude.{◌≡◌};
 ghost use Rattle.fewer_arcs.specs.Reduced.{reduced};
 
-use precedence::{IdRange, LazyPreds, MadeLists, PredLists, add_ranges_of_ids};
-use std::alloc::{AllocError, Global};
+use precedence::{IdRange, LazyPreds, MadeLists, PredLists};
+use std::alloc::AllocError;
 use std::marker::Model;
 
 /// The reduced lists of predecessors: a predecessor of a block is dropped if it is also a predecessor of another of the block's
@@ -12,8 +12,6 @@ use std::marker::Model;
 #[derive(Drop)]
 pub struct ReducedPreds {
     preds: LazyPreds,
-    // scratch space for one list
-    ids: Vec<u32>,
 }
 
 impl Model for ReducedPreds {
@@ -27,13 +25,10 @@ impl Model for ReducedPreds {
 
 impl ReducedPreds {
     /// Returns the reduced lists of `preds`.
-    pub fn new(alloc: Global, preds: LazyPreds) -> ReducedPreds
+    pub fn new(preds: LazyPreds) -> ReducedPreds
         ensures { result ≡ reduced preds }
     {
-        ReducedPreds {
-            preds,
-            ids: Vec::new(alloc),
-        }
+        ReducedPreds { preds }
     }
 }
 
@@ -45,8 +40,6 @@ impl MadeLists for ReducedPreds {
     }
 
     fn add_ranges(&mut self, ranges: &mut Vec<IdRange>, id: u32) -> Result<(), AllocError> {
-        self.ids.clear();
-        self.preds.add_retained(&mut self.ids, id)?;
-        add_ranges_of_ids(ranges, self.ids.as_slice())
+        self.preds.add_retained(ranges, id)
     }
 }

@@ -9,7 +9,6 @@ mod numbering;
 mod places;
 
 pub use lists::id_range::IdRange;
-pub use lists::ids_as_ranges::add_ranges_of_ids;
 pub use lists::lazy_preds::{LazyPreds, preds};
 pub use lists::made_lists::MadeLists;
 pub use lists::pred_lists::PredLists;

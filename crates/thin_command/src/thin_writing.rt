@@ -42,7 +42,7 @@ pub fn write_reduced<S: Sink>(
 {
     let (rows, preds) = parts_of(instance);
     let all = count_all(alloc, &preds)?;
-    let mut reduced = ReducedPreds::new(alloc, preds);
+    let mut reduced = ReducedPreds::new(preds);
     let retained = in_sink(write_lists(alloc, &mut reduced, sink))?;
     Ok(ThinCounts {
         rows,

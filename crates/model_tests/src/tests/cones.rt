@@ -129,22 +129,28 @@ fn found_in(alloc: Global, plan: &[u8], places: &[Place]) -> Result<LazyPreds, F
     Ok(LazyPreds::new(alloc, &numbering, &plan)?)
 }
 
-// Whether a block retains these of its list.
-fn retains(alloc: Global, lists: &mut LazyPreds, block: u32, wanted: &[u32]) -> Result<bool, Fail> {
-    let mut ids = Vec::new(alloc);
+// Whether a block's reduced list is one range: `len` identifiers from `first` on.
+fn retains(
+    alloc: Global,
+    lists: &mut LazyPreds,
+    block: u32,
+    first: u32,
+    len: u32,
+) -> Result<bool, Fail> {
+    let mut ranges = Vec::new(alloc);
     if (block as usize) < lists.count() {
-        lists.add_retained(&mut ids, block)?;
+        lists.add_retained(&mut ranges, block)?;
     }
-    Ok(ids.as_slice() == wanted)
+    Ok(ranges.len() == 1 && ranges[0].first == first && ranges[0].len == len)
 }
 
 // The westernmost block has no predecessor to its west, and the easternmost none to its east.
 #[test]
 fn blocks_of_a_row_share_a_window(rt: HostRuntime) -> Result<(), Fail> {
     let mut found = found_in(rt.alloc(), ONE_BENCH, TWO_ROWS)?;
-    assert!(rt; retains(rt.alloc(), &mut found, 0, &[10, 11])?);
-    assert!(rt; retains(rt.alloc(), &mut found, 1, &[10, 11, 12])?);
-    assert!(rt; retains(rt.alloc(), &mut found, 8, &[17, 18, 19])?);
-    assert!(rt; retains(rt.alloc(), &mut found, 9, &[18, 19])?);
+    assert!(rt; retains(rt.alloc(), &mut found, 0, 10, 2)?);
+    assert!(rt; retains(rt.alloc(), &mut found, 1, 10, 3)?);
+    assert!(rt; retains(rt.alloc(), &mut found, 8, 17, 3)?);
+    assert!(rt; retains(rt.alloc(), &mut found, 9, 18, 2)?);
     Ok(())
 }

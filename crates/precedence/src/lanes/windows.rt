@@ -1,8 +1,9 @@
 //! Windows: the reduced lists of up to 64 blocks with one cone.
 
-ghost use Rattle.std.specs.Prelude.{◌≡◌, ◌↔◌, ◌<◌, ◌^◌, ℕ, true, [], IfOk, IsTrue, OnOk, length, slice_index, slice_index_or};
+ghost use Rattle.std.specs.Prelude.{◌≡◌, ◌↔◌, ◌<◌, ◌^◌, ℕ, true, IfOk, IsTrue, OnOk, length, slice_index, slice_index_or};
 ghost use Rattle.precedence.specs.inner.lanes.Bits.{has_bit};
 ghost use Rattle.precedence.specs.inner.lanes.Windows.{scene, AreRetained, AreWindows, HasLane, IsWindow, Scene, table_of};
+ghost use Rattle.precedence.specs.inner.Lists.{Appends};
 ghost use Rattle.precedence.specs.declared.lanes.strips.Window.{Window};
 
 use crate::cones::block_cones::BlockCones;
@@ -11,6 +12,8 @@ use crate::lanes::looking::{lanes_of, look};
 use crate::lanes::serving::serve;
 use crate::lanes::strip::Strip;
 use crate::lanes::strips::{Sight, Strips, Window, Windows};
+use crate::lists::id_range::IdRange;
+use crate::lists::ids_as_ranges::push_id;
 use crate::places::start_of::start_of;
 use std::alloc::{AllocError, Global};
 
@@ -52,24 +55,23 @@ fn no_strips(alloc: Global) -> Strips {
     }
 }
 
-/// Appends the block's reduced list to `ids`. The window of its cone is replaced if the block is no lane of it.
+/// Appends ranges that represent the block's reduced list. The window of its cone is replaced if the block is no lane of it.
 pub fn add_retained(
-    ids: &mut Vec<u32>,
+    ranges: &mut Vec<IdRange>,
     windows: &mut Windows,
     cones: &BlockCones<'_>,
     id: usize,
 ) -> Result<(), AllocError>
     requires id { id < length (scene cones.now).codes }
-    requires none { ids.old.items ≡ [] }
     requires windows { AreWindows (scene cones.now) windows.old }
-    ensures retained { OnOk result (AreRetained (scene cones.now) id ids.new.items) }
+    ensures retained { OnOk result (Appends (AreRetained (scene cones.now) id) ranges.old.items ranges.new.items) }
     ensures windows { AreWindows (scene cones.now) windows.new }
 {
     let number = cones.tables.of_zone[cones.zones[id] as usize];
     if !has_lane(&windows.windows[number], cones.places.codes[id]) {
         make_window(windows, cones, number, id)?;
     }
-    add_lane(ids, cones, &windows.windows[number], id)
+    add_lane(ranges, cones, &windows.windows[number], id)
 }
 
 fn has_lane(window: &Window, code: u64) -> bool
@@ -138,18 +140,17 @@ fn blocks_seen(strips: &[Strip]) -> usize {
     blocks
 }
 
-// Appends the reduced list of a block that is a lane of the window.
+// Appends ranges that represent the reduced list of a block that is a lane of the window.
 fn add_lane(
-    ids: &mut Vec<u32>,
+    ranges: &mut Vec<IdRange>,
     cones: &BlockCones<'_>,
     window: &Window,
     id: usize,
 ) -> Result<(), AllocError>
     requires id { id < length (scene cones.now).codes }
-    requires none { ids.old.items ≡ [] }
     requires window { IsWindow (scene cones.now) (table_of (scene cones.now) id) window.now }
     requires lane { HasLane window.now (slice_index (scene cones.now).codes id) }
-    ensures { OnOk result (AreRetained (scene cones.now) id ids.new.items) }
+    ensures { OnOk result (Appends (AreRetained (scene cones.now) id) ranges.old.items ranges.new.items) }
 {
     let codes = cones.places.codes.as_slice();
     let code = codes[id];
@@ -158,7 +159,7 @@ fn add_lane(
         if has_bit(u128::from(found.lanes), lane) {
             let id = start_of(codes, found.near.get() as usize, code + found.distance) as u32;
             found.near.set(id);
-            ids.push(id)?;
+            push_id(ranges, id)?;
         }
     }
     Ok(())

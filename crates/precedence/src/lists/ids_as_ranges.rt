@@ -1,10 +1,27 @@
 //! Converts lists of identifiers to ranges, and ranges to lists.
 
-ghost use Rattle.std.specs.Prelude.{◌≡◌, ◌<◌, ◌≤◌, ◌++◌, OnOk, length, take};
+ghost use Rattle.std.specs.Prelude.{◌≡◌, ◌<◌, ◌≤◌, ◌++◌, ◌∷◌, [], OnOk, length, take};
 ghost use Rattle.precedence.specs.IdRanges.{ids_of, ids_of_range};
 
 use crate::lists::id_range::IdRange;
 use std::alloc::AllocError;
+
+/// Appends an identifier: lengthens the last range if the identifier follows it, and appends a range otherwise. Fails only if memory is
+/// refused.
+#[tactic(auto, using(crate::proofs::ranges::RangeLists::ids_lengthen))]
+#[inline(always)]
+pub fn push_id(ranges: &mut Vec<IdRange>, id: u32) -> Result<(), AllocError>
+    ensures { OnOk result (ids_of ranges.new.items ≡ ids_of ranges.old.items ++ id ∷ []) }
+{
+    // The length of a range from 0 to `u32::MAX` does not fit `u32`.
+    match ranges.last_mut() {
+        Some(last) if id > 0 && id < u32::MAX && last.first + (last.len - 1) == id - 1 => {
+            last.len += 1;
+        }
+        _ => ranges.push(IdRange { first: id, len: 1 })?,
+    }
+    Ok(())
+}
 
 /// Appends ranges that represent a list of identifiers.
 pub fn add_ranges_of_ids(ranges: &mut Vec<IdRange>, ids: &[u32]) -> Result<(), AllocError>

@@ -110,14 +110,13 @@ impl LazyPreds {
         )
     }
 
-    /// Appends the block's reduced list to the empty `ids`: a predecessor is dropped if it is also a predecessor of another of the
+    /// Appends ranges that represent the block's reduced list: a predecessor is dropped if it is also a predecessor of another of the
     /// block's predecessors. Stores results for the blocks after it in its row. The lists stay unchanged. Fails only if memory is
-    /// refused; then `ids` is invalid.
+    /// refused; then ranges that represent a part of the reduced list may be appended.
     #[tactic(auto, using(crate::proofs::AllLists::lazy_length))]
-    pub fn add_retained(&mut self, ids: &mut Vec<u32>, block: u32) -> Result<(), AllocError>
+    pub fn add_retained(&mut self, ranges: &mut Vec<IdRange>, block: u32) -> Result<(), AllocError>
         requires block { block < length self.old }
-        requires none { ids.old.items ≡ [] }
-        ensures retained { OnOk result (ids.new.items ≡ filter
+        ensures retained { OnOk result (ids_of ranges.new.items ≡ ids_of ranges.old.items ++ filter
             (λ c. not (is_predecessor_of_any self.old (slice_index_or self.old block []) c)) (slice_index_or self.old block [])) }
         ensures kept { self.new ≡ self.old }
         ensures countable { length (slice_index_or self.old block []) < 2 ^ 63 }
@@ -128,7 +127,7 @@ impl LazyPreds {
             same_cone: self.same_cone.as_slice(),
             tables: &self.tables,
         };
-        add_retained(ids, &mut self.windows, &cones, block as usize)?;
+        add_retained(ranges, &mut self.windows, &cones, block as usize)?;
         Ok(())
     }
 

@@ -1,10 +1,11 @@
-use Rattle.std.proofs.Common.{◌≡◌, ℕ, ◌+◌, ◌-◌, ◌<◌, false, List, get_or, length, subst, sym, ap, ◌∙◌, arith}
+use Rattle.std.proofs.Common.{◌≡◌, ℕ, ◌+◌, ◌-◌, ◌<◌, ◌++◌, ◌∷◌, [], false, List, get_or, length, subst, sym, ap, ◌∙◌, arith, append_assoc}
+use Rattle.precedence.specs.IdRanges.{ids_of}
 use Rattle.precedence.specs.inner.lanes.Bits.{has_bit}
 use Rattle.precedence.specs.inner.lanes.Windows.{scene}
 use Rattle.precedence.specs.declared.lanes.strips.Found.{Found}
 use Rattle.precedence.proofs.ranges.Starts.{start_within}
 use Rattle.precedence.proofs.bits.Windows.{lane_of, listed_push, listed_skip, place_seen, retained, AreListed, IsOf}
-use Rattle.precedence.proofs.lanes.windows.add_lane.Goals.{then-has_bit+in_ok-push, else-has_bit}
+use Rattle.precedence.proofs.lanes.windows.add_lane.Goals.{then-has_bit+in_ok-push_id, else-has_bit}
 use Rattle.precedence.proofs.lanes.windows.add_lane.Goals as goal
 
 pub overflow_add-code : goal.overflow_add-code
@@ -33,23 +34,29 @@ loop-found-preserved c =
     let f = c.found-item.result in
     let value = c.as_slice-codes.ensures.value in
     let is = lane_of (scene cones) c.args.window.now c.args.id c.requires.window c.requires.lane in
+    let ids = c.loop-found.invariant.0 in
+    let listed = c.loop-found.invariant.1 in
     let at : f ≡ get_or found k f = c.found-item.is ∙ ap (λ (fs : List Found). get_or fs k f) c.deref-found-items.ensures.value in
     let within : k < length found = omega (arith, c.loop-found-test.true, ap length c.deref-found-items.ensures.value) in
     elim c.if-has_bit.branch [
-      | then-has_bit+in_ok-push w ↦
+      | then-has_bit+in_ok-push_id w ↦
           let place = place_seen (scene cones) cones.places.now.rising c.args.id c.args.window.now c.requires.window c.requires.lane
           c.as_slice-codes.result.now value c.deref-found-items.result.now c.deref-found-items.ensures.value
           k f (omega (arith, c.loop-found-test.true)) c.found-item.is (sym (c.has_bit.ensures ∙ ap (λ n. has_bit n (get_or c.as_slice-codes.result.now c.args.id 0 - c.args.window.now.base)) c.from.ensures) ∙ w.if-has_bit.true) in
-          subst (λ (ids : List ℕ). AreListed codes from (from - base) (k + 1) found ids)
-          (sym (ap (λ v. v.items) w.ids-is ∙ w.in_ok-push.ensures.items))
-          (listed_push codes cones.places.now.rising from (from - base) found is.rising k c.loop-found.ids.items c.loop-found.invariant within _
-          (subst (λ n. IsOf codes from (from - base) found k n) (sym w.start_of-id.ensures) place.1))
+          let id = w.start_of-id.result in (
+            ids ++ id ∷ [],
+            listed_push codes cones.places.now.rising from (from - base) found is.rising k ids listed within id
+                (subst (λ n. IsOf codes from (from - base) found k n) (sym w.start_of-id.ensures) place.1),
+            ap (λ v. ids_of v.items) w.ranges-is ∙ w.in_ok-push_id.ensures ∙ ap (λ all. all ++ id ∷ []) c.loop-found.invariant.2
+                ∙ append_assoc (ids_of c.args.ranges.now.items) ids (id ∷ []),
+          )
       | else-has_bit w ↦
-          let none = subst (λ (cs : List ℕ). has_bit f.lanes (get_or cs c.args.id 0 - base) ≡ false) value (sym (c.has_bit.ensures ∙ ap (λ n. has_bit n (get_or c.as_slice-codes.result.now c.args.id 0 - c.args.window.now.base)) c.from.ensures) ∙ w.if-has_bit.false) in
-          subst (λ (ids : List ℕ). AreListed codes from (from - base) (k + 1) found ids)
-          (sym (ap (λ v. v.items) w.ids-is))
-          (listed_skip codes cones.places.now.rising from (from - base) found is.rising k c.loop-found.ids.items c.loop-found.invariant within f
-          (ap (λ (x : Found). has_bit x.lanes (from - base)) (sym at) ∙ none))
+          let none = subst (λ (cs : List ℕ). has_bit f.lanes (get_or cs c.args.id 0 - base) ≡ false) value (sym (c.has_bit.ensures ∙ ap (λ n. has_bit n (get_or c.as_slice-codes.result.now c.args.id 0 - c.args.window.now.base)) c.from.ensures) ∙ w.if-has_bit.false) in (
+            ids,
+            listed_skip codes cones.places.now.rising from (from - base) found is.rising k ids listed within f
+                (ap (λ (x : Found). has_bit x.lanes (from - base)) (sym at) ∙ none),
+            ap (λ v. ids_of v.items) w.ranges-is ∙ c.loop-found.invariant.2,
+          )
     ]
 
 pub returns : goal.returns
@@ -60,5 +67,9 @@ returns c =
     let codes = cones.places.now.codes.items in
     let from = get_or codes c.args.id 0 in
     let all : c.loop-found.found-index ≡ length found = omega (arith, c.loop-found-test.false, c.loop-found.auto.found-index-end, ap length c.deref-found-items.ensures.value) in
-    retained (scene cones) cones.places.now.rising c.args.id (from - c.args.window.now.base) found c.loop-found.ids.items lane
-    (subst (λ n. AreListed codes from (from - c.args.window.now.base) n found c.loop-found.ids.items) all c.loop-found.invariant)
+    let ids = c.loop-found.invariant.0 in (
+      ids,
+      retained (scene cones) cones.places.now.rising c.args.id (from - c.args.window.now.base) found ids lane
+          (subst (λ n. AreListed codes from (from - c.args.window.now.base) n found ids) all c.loop-found.invariant.1),
+      c.loop-found.invariant.2,
+    )
