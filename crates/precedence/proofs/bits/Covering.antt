@@ -12,11 +12,11 @@ use Rattle.precedence.specs.declared.lanes.strips.Strips.{Strips}
 use Rattle.precedence.proofs.bits.StripsMet.{meets_at}
 use Rattle.precedence.proofs.ranges.RowOfCode.{in_this_row}
 
--- from a distance on, up to the end of a row that has begun and a cover, the cover has a distance from which the remainder is in the row
-pub row_covers : (rows : List Row) (number : ℕ) (row : Row) (first past distance d : ℕ) → number < length rows → row ≡ get_or rows number row → row.first < row.past
-    → first < past → first ≤ distance → row.first ≤ distance - first → distance ≤ d → d < row.past + past - 1
+-- a cover from whose first distance a row has begun, and from whose last it has not ended, has a distance from which the remainder is in the row
+pub row_covers : (rows : List Row) (number : ℕ) (row : Row) (first past d : ℕ) → number < length rows → row ≡ get_or rows number row → row.first < row.past
+    → first < past → row.first + first ≤ d → d < row.past + past - 1
     → (e : ℕ) × (first ≤ e) × (e < past) × (e ≤ d) × (is_in_rows 0 rows (d - e) ≡ true)
-row_covers rows number row first past distance d lt is some covered from begun le upto = (
+row_covers rows number row first past d lt is some covered begun upto = (
   max first (d - (row.past - 1)),
   omega arith,
   omega arith,

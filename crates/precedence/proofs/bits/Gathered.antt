@@ -1,6 +1,6 @@
 -- Bits gathered from offsets that follow one another.
-use Rattle.std.proofs.Common.{◌≡◌, ℕ, ◌+◌, ◌-◌, ◌/◌, ◌^◌, ◌<◌, ◌≤◌, true, false, bit_or, ⊎_elim, sym, ap, ◌∙◌, arith}
-use Rattle.std.proofs.lemmas.Bool.{cases_lt, or_cases, or_left, or_right, both_ways, false_from_ne_true}
+use Rattle.std.proofs.Common.{◌≡◌, ℕ, ◌+◌, ◌-◌, ◌/◌, ◌^◌, ◌<◌, ◌≤◌, true, bit_or, ⊎_elim, sym, ap, ◌∙◌, arith}
+use Rattle.std.proofs.lemmas.Bool.{cases_lt, or_cases, or_left, or_right}
 use Rattle.precedence.specs.inner.lanes.Bits.{has_bit}
 use Rattle.precedence.proofs.bits.Words.{has_bit_or, has_bit_shr}
 
@@ -36,7 +36,3 @@ gathers_more word first len step seen few old = record {
       or_right _ _ (has_bit_shr seen step i ∙ old.all (i + step) (at - step) (omega arith) (omega arith) (ap (has_bit word) e ∙ yes)))
       (cases_lt at (first + len));
 }
-
-pub none_gathered : (word first len seen : ℕ) → Gathers word first len seen → (i at : ℕ) → first ≤ at → at < first + len → has_bit seen i ≡ false → has_bit word (i + at) ≡ false
-none_gathered word first len seen gathers i at low up none =
-    false_from_ne_true _ (λ here. both_ways _ none (gathers.all i at low up here))

@@ -44,7 +44,7 @@ begins_later low (row ∷ rows) high (suc j) zero d apart le lt = absurd (omega 
 begins_later low (row ∷ rows) high (suc j) (suc k) d apart le lt = begins_later row.past rows high j k d apart.2 (omega arith) (omega arith)
 
 -- a row that has a distance at most 63 below `most` is none of those that are past
-not_past : (rows : List Row) (high most rest j low : ℕ) → LieApart 0 rows high → j < length rows → low ≡ start_of (most - 63 + 1) (pasts rows) → most ≤ rest + 63
+not_past : (rows : List Row) (high most rest j low : ℕ) → LieApart 0 rows high → j < length rows → low ≤ start_of (most - 63 + 1) (pasts rows) → most ≤ rest + 63
     → ((d : Row) → ((get_or rows j d).first ≤ rest) × (rest < (get_or rows j d).past)) → low ≤ j
 not_past rows high most rest j low apart lt low_is near there = ⊎_elim
     (λ less.
@@ -120,8 +120,8 @@ module _ (strip : Strip) (rows : List Row) (most : ℕ) where
         },
       )
 
-  -- the rows before the first one reached end too early, and the rows from the last one on start too late
-  pub met_of_meets : (high low up i e : ℕ) → LieApart 0 rows high → low ≡ start_of (most - 63 + 1) (pasts rows)
+  -- the rows before the first one end too early, and the rows from the last one on start too late
+  pub met_of_meets : (high low up i e : ℕ) → LieApart 0 rows high → low ≤ start_of (most - 63 + 1) (pasts rows)
       → (up < length rows → (d : Row) → most < (get_or rows up d).first)
       → Meets strip rows (strip.start + most) i e → Among (MeetsRow strip rows most) low up i
   met_of_meets high low up i e apart low_is ended meets =

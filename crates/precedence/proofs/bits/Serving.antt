@@ -1,15 +1,16 @@
 -- What the lanes of a window retain, strip by strip and distance by distance.
-use Rattle.std.proofs.Common.{◌≡◌, ℕ, ◌+◌, ◌-◌, ◌<◌, ◌≤◌, ◌&&◌, ◌++◌, ◌∷◌, [], true, false, max, List, All, length, get_or, map, inl, inr, ◌⊎◌, refl, sym, ap, subst, ◌∙◌, arith, ⊎_elim}
+use Rattle.std.proofs.Common.{◌≡◌, ◌≢◌, ℕ, ◌+◌, ◌-◌, ◌<◌, ◌≤◌, ◌&&◌, ◌++◌, ◌∷◌, [], true, false, min, List, All, length, get_or, map, inl, inr, ◌⊎◌, refl, sym, ap, subst, ◌∙◌, arith, ⊎_elim}
 use Rattle.std.specs.List.Sorted.{IsStrictlyIncreasing}
-use Rattle.std.proofs.lemmas.Bool.{and_from, and_parts, both_ways, cases_lt, cases_order}
+use Rattle.std.proofs.lemmas.Bool.{and_from, and_parts, cases_Bool, cases_lt, cases_order}
 use Rattle.std.proofs.lemmas.List.{get_or_append_left, get_or_default, get_or_push, length-append, map-append}
 use Rattle.std.proofs.lemmas.List.Elements.{All-map, All-push}
 use Rattle.precedence.specs.inner.lanes.Bits.{has_bit}
-use Rattle.precedence.specs.inner.lanes.Windows.{AreFound, AreFoundBy, Drops, HasDistance, IsFoundFor, IsRetained, MayDrop, MeetsAny, SeesAt}
+use Rattle.precedence.specs.inner.lanes.Windows.{AreFound, AreFoundBy, Drops, HasDistance, HasOffsets, IsFoundFor, IsRetained, MayDrop, MeetsAny, SeesAt}
 use Rattle.precedence.specs.declared.cones.cone_table.ConeTable.{ConeTable}
 use Rattle.precedence.specs.declared.lanes.strip.Strip.{Strip}
 use Rattle.precedence.specs.declared.lanes.strips.Found.{Found}
 use Rattle.precedence.specs.declared.lanes.strips.Sight.{Sight}
+use Rattle.precedence.specs.declared.lanes.strips.Strips.{Strips}
 use Rattle.precedence.proofs.bits.Words.{no_bit}
 use Rattle.precedence.proofs.Members.{rising_push}
 
@@ -23,6 +24,18 @@ drops_both Why there some rest first then = record {
   };
   none = then.none;
 }
+
+-- ---- the offsets of a strip
+
+-- offsets are cleared if each lane that sees a block there has another one between
+pub offsets_cleared : (tables : List ConeTable) (by_table : List Strips) (lanes : ℕ) (strip : Strip) (before after : ℕ)
+    → HasOffsets tables by_table lanes strip before
+    → ((i k : ℕ) → has_bit lanes i ≡ true → has_bit before k ≡ true → has_bit after k ≡ false → MeetsAny tables by_table (strip.start + k) i)
+    → HasOffsets tables by_table lanes strip after
+offsets_cleared tables by_table lanes strip before after has covered i k lt lane bit gone = ⊎_elim
+    (λ old. covered i k lane old gone)
+    (λ none. has i k lt lane bit none)
+    (cases_Bool (has_bit before k))
 
 -- ---- what is found
 
@@ -107,63 +120,81 @@ module _ (tables : List ConeTable) (sight : Sight) (lanes : ℕ) where
       coming = λ k t le in'. omega (arith, sight.all.apart number k t (omega arith) in', ap (λ (x : Strip). x.start) (at t), ap (λ (x : Strip). x.len) (at t));
     }
 
-    -- no lane sees a block up to a later distance of the strip
-    pub found_unseen : (distance there count upto : ℕ) (found : List Found) → AreFound tables sight lanes distance found → s.start ≤ distance
-        → ((i : ℕ) → has_bit there i ≡ (has_bit lanes i && has_bit s.word (i + (distance - s.start)))) → there ≡ 0
-        → ((i k : ℕ) → distance - s.start ≤ k → k < distance - s.start + count → has_bit lanes i ≡ true → has_bit s.word (i + k) ≡ false)
-        → distance ≤ upto → upto ≤ s.start + s.len → upto ≤ distance + max count 1 → AreFound tables sight lanes upto found
-    found_unseen distance there count upto found h from seen none unseen le within_strip most = found_more distance upto found h le
-        (λ j i e t lt lane sees up low.
-        let bit = (only j i e t lt (omega (arith, from, up), omega (arith, low, within_strip)) sees).bit in
-        absurd (⊎_elim
-        (λ early. both_ways _ (unseen i (e - s.start) (omega (arith, up)) (omega (arith, early, from, up)) lane) bit)
-        (λ late.
-        let here : e ≡ distance = omega (arith, late, up, low, most) in
-        no_bit i (subst (λ n. has_bit n i ≡ true) none (seen i ∙ and_from _ _ lane (subst (λ n. has_bit s.word (i + (n - s.start)) ≡ true) here bit))))
-        (cases_lt e (distance + count))))
+    -- nothing is retained at the offsets that are skipped
+    pub found_skipped : (offsets at next : ℕ) (found : List Found) → AreFound tables sight lanes (s.start + min at s.len) found → at ≤ next
+        → HasOffsets tables sight.by_table.items lanes s offsets → ((k : ℕ) → at ≤ k → k < next → has_bit offsets k ≡ false)
+        → AreFound tables sight lanes (s.start + min next s.len) found
+    found_skipped offsets at next found h le has none = found_more (s.start + min at s.len) (s.start + min next s.len) found h (omega (arith, le))
+        (λ j i d t lt lane sees up low.
+        let bit = (only j i d t lt (omega (arith, up), omega (arith, low)) sees).bit in
+        let there : s.start + (d - s.start) ≡ d = omega (arith, up) in
+        subst (λ n. Between n i) there
+        (has i (d - s.start) (omega (arith, up, low)) lane bit (none (d - s.start) (omega (arith, up, low)) (omega (arith, up, low)))))
 
-    module _ (distance there rest : ℕ) (found : List Found) (h : AreFound tables sight lanes distance found) (has : HasDistance s distance)
-        (seen : (i : ℕ) → has_bit there i ≡ (has_bit lanes i && has_bit s.word (i + (distance - s.start))))
-        (drops : Drops (Between distance) there rest) where
-      there_at : (j i : ℕ) (t : Strip) → j < length strips → has_bit lanes i ≡ true → SeesAt (get_or strips j t) i distance
-          → (has_bit rest i ≡ true) ⊎ Between distance i
-      there_at j i t lt lane sees =
-          drops.may.dropped i (seen i ∙ and_from _ _ lane (only j i distance t lt has sees).bit)
+    module _ (distance offset there rest : ℕ) (found : List Found) (h : AreFound tables sight lanes (s.start + min offset s.len) found)
+        (is_there : distance ≡ s.start + offset) (in_strip : offset < s.len)
+        (seen : (i : ℕ) → has_bit there i ≡ (has_bit lanes i && has_bit s.word (i + offset))) (may : MayDrop (Between distance) there rest) where
+      has : HasDistance s distance
+      has = (omega (arith, is_there), omega (arith, is_there, in_strip))
+
+      there_at : (j i d : ℕ) (t : Strip) → j < length strips → has_bit lanes i ≡ true → SeesAt (get_or strips j t) i d → d ≡ distance
+          → (has_bit rest i ≡ true) ⊎ Between d i
+      there_at j i d t lt lane sees here =
+          let bit = (only j i d t lt (omega (arith, here, is_there), omega (arith, here, is_there, in_strip)) sees).bit in
+          let same : d - s.start ≡ offset = omega (arith, here, is_there) in
+          ⊎_elim
+          (λ kept. inl kept)
+          (λ between. inr (subst (λ n. Between n i) (sym here) between))
+          (may.dropped i (seen i ∙ and_from _ _ lane (subst (λ n. has_bit s.word (i + n) ≡ true) same bit)))
 
       -- nothing is retained at the distance
-      pub found_not : rest ≡ 0 → AreFound tables sight lanes (distance + 1) found
-      found_not none = found_more distance (distance + 1) found h (omega arith)
-          (λ j i d t lt lane sees up low.
-          let same : d ≡ distance = omega arith in
-          ⊎_elim
+      pub found_not : rest ≡ 0 → AreFound tables sight lanes (s.start + min (offset + 1) s.len) found
+      found_not none = found_more (s.start + min offset s.len) (s.start + min (offset + 1) s.len) found h (omega arith)
+          (λ j i d t lt lane sees up low. ⊎_elim
           (λ kept. absurd (no_bit i (subst (λ n. has_bit n i ≡ true) none kept)))
-          (λ between. subst (λ n. Between n i) (sym same) between)
-          (there_at j i t lt lane (subst (λ n. SeesAt (get_or strips j t) i n) same sees)))
+          (λ between. between)
+          (there_at j i d t lt lane sees (omega (arith, up, low, is_there, in_strip))))
 
-      retained : (f : Found) (i : ℕ) → f.distance ≡ distance → f.lanes ≡ rest → has_bit f.lanes i ≡ true → IsRetained tables sight lanes i f.distance
-      retained f i at_distance lanes_are bit =
-          let kept : has_bit rest i ≡ true = subst (λ n. has_bit n i ≡ true) lanes_are bit in
-          let both = and_parts (has_bit lanes i) _ (sym (seen i) ∙ drops.may.among i kept) in
-          subst (λ n. IsRetained tables sight lanes i n) (sym at_distance) (record {
-            lane = both.0;
-            seen = (number, within, λ t. subst (λ (x : Strip). SeesAt x i distance) (sym (at t)) (record { distance = has; bit = both.1 }));
-            alone = drops.none i kept;
-          })
+      module _ (none : (i : ℕ) → has_bit rest i ≡ true → Between distance i → ⊥) where
+        retained : (f : Found) (i : ℕ) → f.distance ≡ distance → f.lanes ≡ rest → has_bit f.lanes i ≡ true → IsRetained tables sight lanes i f.distance
+        retained f i at_distance lanes_are bit =
+            let kept : has_bit rest i ≡ true = subst (λ n. has_bit n i ≡ true) lanes_are bit in
+            let both = and_parts (has_bit lanes i) _ (sym (seen i) ∙ may.among i kept) in
+            let same : offset ≡ distance - s.start = omega (arith, is_there) in
+            let bit_there = subst (λ n. has_bit s.word (i + n) ≡ true) same both.1 in
+            subst (λ n. IsRetained tables sight lanes i n) (sym at_distance) (record {
+              lane = both.0;
+              seen = (number, within, λ t. subst (λ (x : Strip). SeesAt x i distance) (sym (at t)) (record { distance = has; bit = bit_there }));
+              alone = none i kept;
+            })
 
-      -- these lanes retain what they see there
-      pub found_these : (f : Found) → f.distance ≡ distance → f.lanes ≡ rest → AreFound tables sight lanes (distance + 1) (found ++ f ∷ [])
-      found_these f at_distance lanes_are = record {
-        rising = distances_rise found f h.rising (λ k d lt. omega (arith, h.below k d lt));
-        below = All-push (λ (x : Found). x.distance < distance + 1) found f (λ k d less. omega (arith, h.below k d less)) (omega arith);
-        sound = λ k i g lt. All-push (λ (x : Found). has_bit x.lanes i ≡ true → IsRetained tables sight lanes i x.distance) found f
-            (λ k g less. h.sound k i g less) (retained f i at_distance lanes_are) k g lt;
-        complete = λ j i d t lt in' lane sees. ⊎_elim
-            (λ less. ⊎_elim (λ old. inl (found_push found f i d old)) (λ between. inr between) (h.complete j i d t less in' lane sees))
-            (λ le.
-            let same : d ≡ distance = omega arith in
-            ⊎_elim
-            (λ kept. inl (found_last found f i d (at_distance ∙ sym same) (subst (λ n. has_bit n i ≡ true) (sym lanes_are) kept)))
-            (λ between. inr (subst (λ n. Between n i) (sym same) between))
-            (there_at j i t in' lane (subst (λ n. SeesAt (get_or strips j t) i n) same sees)))
-            (cases_lt d distance);
-      }
+        -- these lanes retain what they see there
+        found_these : (f : Found) → f.distance ≡ distance → f.lanes ≡ rest → AreFound tables sight lanes (s.start + min (offset + 1) s.len) (found ++ f ∷ [])
+        found_these f at_distance lanes_are = record {
+          rising = distances_rise found f h.rising (λ k d lt. omega (arith, h.below k d lt, at_distance, is_there));
+          below = All-push (λ (x : Found). x.distance < s.start + min (offset + 1) s.len) found f
+              (λ k d less. omega (arith, h.below k d less)) (omega (arith, at_distance, is_there, in_strip));
+          sound = λ k i g lt. All-push (λ (x : Found). has_bit x.lanes i ≡ true → IsRetained tables sight lanes i x.distance) found f
+              (λ k g less. h.sound k i g less) (retained f i at_distance lanes_are) k g lt;
+          complete = λ j i d t lt in' lane sees. ⊎_elim
+              (λ less. ⊎_elim (λ old. inl (found_push found f i d old)) (λ between. inr between) (h.complete j i d t less in' lane sees))
+              (λ le.
+              let here : d ≡ distance = omega (arith, le, lt, is_there, in_strip) in
+              ⊎_elim
+              (λ kept. inl (found_last found f i d (at_distance ∙ sym here) (subst (λ n. has_bit n i ≡ true) (sym lanes_are) kept)))
+              (λ between. inr between)
+              (there_at j i d t in' lane sees here))
+              (cases_lt d (s.start + min offset s.len));
+        }
+
+        -- what lanes retain at the distance is added, if some lane does
+        pub found_next : (after : List Found) → (rest ≢ 0 → (f : Found) × (f.distance ≡ distance) × (f.lanes ≡ rest) × (after ≡ found ++ f ∷ []))
+            → (rest ≡ 0 → after ≡ found) → AreFound tables sight lanes (s.start + min (offset + 1) s.len) after
+        found_next after some same = ⊎_elim
+            (λ kept.
+            let w = some (λ e. omega (arith, kept, e)) in
+            subst (λ (fs : List Found). AreFound tables sight lanes (s.start + min (offset + 1) s.len) fs) (sym w.3) (found_these w.0 w.1 w.2))
+            (λ no.
+            let e : rest ≡ 0 = omega (arith, no) in
+            subst (λ (fs : List Found). AreFound tables sight lanes (s.start + min (offset + 1) s.len) fs) (sym (same e)) (found_not e))
+            (cases_lt 0 rest)

@@ -1,10 +1,10 @@
 -- One bit of a word through each operation.
-use Rattle.std.proofs.Common.{◌≡◌, ℕ, zero, suc, ◌+◌, ◌-◌, ◌/◌, ◌%◌, ◌^◌, ◌<◌, ◌≤◌, min, max, Bool, true, false, not, ◌&&◌, ◌||◌, ◌==◌, nat_lt, nat_le, bit_and, bit_or, ⊎_elim, refl, sym, ap, ◌∙◌, arith}
-use Rattle.std.specs.Int.{bit_at, leading_zeros, trailing_zeros, w128}
+use Rattle.std.proofs.Common.{◌≡◌, ℕ, zero, suc, ◌+◌, ◌-◌, ◌*◌, ◌/◌, ◌%◌, ◌^◌, ◌<◌, ◌≤◌, min, max, Bool, true, false, not, ◌&&◌, ◌||◌, ◌==◌, nat_lt, nat_le, bit_and, bit_or, ⊎_elim, refl, sym, ap, ◌∙◌, arith}
+use Rattle.std.specs.Int.{bit_at, leading_zeros, trailing_zeros, w64, w128}
 use Rattle.std.proofs.lemmas.Bool.{cases_lt, lt-ltb, le-ltb, le-leb, lt-leb, and_parts, and_cases, both_ways, not-true, not-false}
-use Rattle.std.proofs.Math.Nat.{div-eq_of_lt-le, div-le_self, pow-suc}
+use Rattle.std.proofs.Math.Nat.{div-eq_of_lt-le, div-le_self, mod-eq_of_lt, mul_comm, mul-sub, pow-suc}
 use Rattle.std.proofs.Math.Pow.{pow_mono}
-use Rattle.std.proofs.lemmas.Nat.{leading_length, leading_top, pow_pos, shr-shr}
+use Rattle.std.proofs.lemmas.Nat.{leading_length, leading_top, pow-add, pow_pos, shr-shr}
 use Rattle.std.proofs.lemmas.Nat.Bits.{bit_at_and, bit_at_or, bit_at_not, bit_at_above, bit_at-lt, bit_at-trailing_zeros, bit_at-zero, bit_at_mask_inside, bit_at_mask_below, bit_at_mask_above}
 use Rattle.precedence.specs.inner.lanes.Bits.{has_bit}
 
@@ -86,22 +86,81 @@ lane_below lanes k i fits lane = ⊎_elim
     (λ above. absurd (both_ways _ (ap (λ n. n == 1) (bit_at_above lanes k i fits above)) lane))
     (cases_lt i k)
 
--- the bits of a word before its lowest one
-none_below : (n i : ℕ) → n < 2 ^ 128 → i < trailing_zeros w128 n → has_bit n i ≡ false
-none_below n i fits below = ⊎_elim
-    (λ some. ap (λ x. x == 1) ((bit_at-trailing_zeros w128 n some fits).2 i below))
-    (λ none. let zero : n ≡ 0 = omega (arith, none) in ap (λ m. has_bit m i) zero ∙ ap (λ x. x == 1) (bit_at-zero i))
-    (cases_lt 0 n)
-
 pub no_bit : (i : ℕ) → has_bit 0 i ≡ true → ⊥
 no_bit i h = both_ways _ (ap (λ n. n == 1) (bit_at-zero i)) h
 
--- no lane sees a bit before the last lane sees the next one
-pub unseen_until : (lanes word at i k : ℕ) → lanes < 2 ^ 128 → word < 2 ^ 128 → at ≤ k
-    → k + 127 < at + trailing_zeros w128 (word / 2 ^ at) + leading_zeros w128 lanes → has_bit lanes i ≡ true → has_bit word (i + k) ≡ false
-unseen_until lanes word at i k fits word_fits from before lane =
-    let top = leading_length 128 lanes fits in
-    let within = lane_below lanes top.0 i top.2 lane in
-    let there : i + (k - at) + at ≡ i + k = omega (arith, from) in
-    ap (λ p. has_bit word p) (sym there) ∙ sym (has_bit_shr word at (i + (k - at)))
-    ∙ none_below (word / 2 ^ at) (i + (k - at)) (omega (arith, div-le_self word (2 ^ at), word_fits)) (omega (arith, top.1, within, before, from))
+-- a mask that is moved up
+pub moved_mask : (first past : ℕ) → first ≤ past → past ≤ 128 → (2 ^ (past - first) - 1) * 2 ^ first % 2 ^ 128 ≡ 2 ^ past - 2 ^ first
+moved_mask first past le within =
+    let total : past - first + first ≡ past = omega arith in
+    let all : 2 ^ (past - first) * 2 ^ first ≡ 2 ^ past = sym (pow-add 2 (past - first) first) ∙ ap (λ n. 2 ^ n) total in
+    let up : 2 ^ past ≤ 2 ^ 128 = pow_mono within in
+    let moved : (2 ^ (past - first) - 1) * 2 ^ first ≡ 2 ^ past - 2 ^ first = moved_by (2 ^ (past - first)) (2 ^ first) ∙ ap (λ n. n - 2 ^ first) all in
+    mod-eq_of_lt (omega (arith, moved, up, pow_pos first, pow_pos past)) ∙ moved
+  where
+    moved_by : (a b : ℕ) → (a - 1) * b ≡ a * b - b
+    moved_by a b = omega (arith, mul_comm (a - 1) b, mul-sub b a 1, mul_comm b a)
+
+-- the last lane
+pub last_lane : (lanes : ℕ) → lanes < 2 ^ 64 → (m : ℕ) × (leading_zeros w128 lanes + m ≡ 128) × (m ≤ 64) × ((i : ℕ) → has_bit lanes i ≡ true → i < m)
+last_lane lanes fits =
+    let top = leading_length 128 lanes (omega (arith, fits)) in (
+      top.0,
+      top.1,
+      ⊎_elim
+          (λ less. omega (arith, less))
+          (λ more. let most : 2 ^ 65 ≤ 2 ^ top.0 = pow_mono more in absurd (omega (arith, most, top.3, fits)))
+          (cases_lt top.0 65),
+      λ i lane. lane_below lanes top.0 i top.2 lane,
+    )
+
+-- ---- words of 64 bits
+
+has_bit_ones : (k p : ℕ) → has_bit (2 ^ k - 1) p ≡ nat_lt p k
+has_bit_ones k p = has_bit_mask 0 k p (omega arith) ∙ ap (λ b. b && nat_lt p k) (le-leb 0 p (omega arith))
+
+pub has_bit_below : (past p : ℕ) → past ≤ 64 → has_bit ((2 ^ 64 - 1) / 2 ^ (64 - past)) p ≡ nat_lt p past
+has_bit_below past p within = has_bit_shr (2 ^ 64 - 1) (64 - past) p ∙ has_bit_ones 64 (p + (64 - past)) ∙ ⊎_elim
+    (λ less. lt-ltb _ _ (omega arith) ∙ sym (lt-ltb p past less))
+    (λ more. le-ltb _ _ (omega arith) ∙ sym (le-ltb p past more))
+    (cases_lt p past)
+
+has_bit_not_64 : (a i : ℕ) → a < 2 ^ 64 → i < 64 → has_bit (2 ^ 64 - 1 - a) i ≡ not (has_bit a i)
+has_bit_not_64 a i fits within =
+    ap (λ n. n == 1) (bit_at_not w64 a i fits within) ∙ two_cases (λ x. ((1 - x) == 1) ≡ not (x == 1)) refl refl (bit_at a i) (bit_at-lt a i)
+
+-- the bits that are not from `first` to `past` (exclusive)
+pub has_bit_outside : (bits mask first past p : ℕ) → bits < 2 ^ 64 → mask < 2 ^ 64 → has_bit mask p ≡ nat_lt p past
+    → has_bit (bit_and bits (bit_or (2 ^ first - 1) (2 ^ 64 - 1 - mask))) p ≡ (has_bit bits p && not (nat_le first p && nat_lt p past))
+has_bit_outside bits mask first past p fits mask_fits mask_is = has_bit_and bits _ p ∙ ⊎_elim
+    (λ within. ap (λ b. has_bit bits p && b) (has_bit_or (2 ^ first - 1) (2 ^ 64 - 1 - mask) p
+    ∙ (λ j. has_bit_ones first p j || (has_bit_not_64 mask p mask_fits within ∙ ap not mask_is) j) ∙ outside))
+    (λ above.
+    let none : has_bit bits p ≡ false = ap (λ n. n == 1) (bit_at_above bits 64 p fits above) in
+    ap (λ b. b && has_bit (bit_or (2 ^ first - 1) (2 ^ 64 - 1 - mask)) p) none ∙ sym (ap (λ b. b && not (nat_le first p && nat_lt p past)) none))
+    (cases_lt p 64)
+  where
+    outside : (nat_lt p first || not (nat_lt p past)) ≡ not (nat_le first p && nat_lt p past)
+    outside = ⊎_elim
+        (λ below. ap (λ b. b || not (nat_lt p past)) (lt-ltb p first below) ∙ sym (ap (λ b. not (b && nat_lt p past)) (lt-leb first p below)))
+        (λ from. ap (λ b. b || not (nat_lt p past)) (le-ltb p first from) ∙ sym (ap (λ b. not (b && nat_lt p past)) (le-leb first p from)))
+        (cases_lt p first)
+
+-- the first bit from `at` on
+pub first_bit : (n at : ℕ) → n < 2 ^ 64 → (n / 2 ^ at ≡ 0 → ⊥)
+    → (has_bit n (at + trailing_zeros w64 (n / 2 ^ at)) ≡ true)
+    × ((p : ℕ) → at ≤ p → p < at + trailing_zeros w64 (n / 2 ^ at) → has_bit n p ≡ false)
+first_bit n at fits some =
+    let h = bit_at-trailing_zeros w64 (n / 2 ^ at) (omega (arith, some)) (omega (arith, div-le_self n (2 ^ at), fits)) in
+    let place = trailing_zeros w64 (n / 2 ^ at) in
+    let there : at + place ≡ place + at = omega arith in (
+      ap (has_bit n) there ∙ sym (has_bit_shr n at place) ∙ ap (λ x. x == 1) h.1,
+      λ p from before.
+          let back : p ≡ p - at + at = omega (arith, from) in
+          ap (has_bit n) back ∙ sym (has_bit_shr n at (p - at)) ∙ ap (λ x. x == 1) (h.2 (p - at) (omega (arith, from, before))),
+    )
+
+pub no_bits : (n at p : ℕ) → n / 2 ^ at ≡ 0 → at ≤ p → has_bit n p ≡ false
+no_bits n at p none from =
+    let back : p ≡ p - at + at = omega (arith, from) in
+    ap (has_bit n) back ∙ sym (has_bit_shr n at (p - at)) ∙ ap (λ m. has_bit m (p - at)) none ∙ ap (λ x. x == 1) (bit_at-zero (p - at))

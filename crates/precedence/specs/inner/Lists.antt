@@ -27,6 +27,6 @@ in_cone tables of_zone all zone from = positions_where (is_in_rows from (zone_ro
 abbrev pub in_cones : List ConeTable → List ℕ → List ℕ → List ℕ → List ℕ → List (List ℕ)
 in_cones tables of_zone all zones codes = zip2 (in_cone tables of_zone all) zones codes
 
--- ranges are appended that represent such a list
+-- such a list is appended to ranges, the last of which may be lengthened
 abbrev pub Appends : (List ℕ → Type 0) → (before after : List IdRange) → Type 0
 Appends Is before after = (ids : List ℕ) × Is ids × (ids_of after ≡ ids_of before ++ ids)

@@ -1,6 +1,6 @@
 //! Bits of words.
 
-ghost use Rattle.std.specs.Prelude.{◌≡◌, ◌+◌, ◌-◌, ◌^◌, ◌<◌, ◌≤◌, ◌&&◌, ℕ, true, false, nat_lt, nat_le};
+ghost use Rattle.std.specs.Prelude.{◌≡◌, ◌+◌, ◌-◌, ◌^◌, ◌<◌, ◌≤◌, ◌&&◌, ℕ, true, false, nat_lt, nat_le, not};
 ghost use Rattle.precedence.specs.inner.lanes.Bits.{has_bit};
 
 /// Returns whether the word has the bit.
@@ -19,7 +19,10 @@ pub fn bits_between(first: u32, past: u32) -> u128
     requires within { past ≤ 128 }
     ensures { (p : ℕ) → has_bit result p ≡ (nat_le first p && nat_lt p past) }
 {
-    bits_below(past) - bits_below(first)
+    if first == past {
+        return 0;
+    }
+    bits_below(past - first) << first
 }
 
 #[inline(always)]
@@ -53,15 +56,6 @@ pub fn seen_at(lanes: u128, word: u128, at: u32) -> u128
     lanes & (word >> at)
 }
 
-/// Returns a number of offsets from `at` on at which no lane sees a bit of the word: up to where the last lane sees the next bit.
-#[inline(always)]
-pub fn unseen(lanes: u128, word: u128, at: u32) -> u32
-    requires { at < 128 }
-    ensures { (i k : ℕ) → at ≤ k → k < at + result → has_bit lanes i ≡ true → has_bit word (i + k) ≡ false }
-{
-    ((word >> at).trailing_zeros() + lanes.leading_zeros()).saturating_sub(127)
-}
-
 /// Returns the lanes that have no bit of the word at any of the `len` offsets from `first` on.
 #[inline(always)]
 pub fn without(lanes: u128, word: u128, first: u32, len: u32) -> u128
@@ -73,6 +67,18 @@ pub fn without(lanes: u128, word: u128, first: u32, len: u32) -> u128
     ensures dropped { (i : ℕ) → has_bit lanes i ≡ true → has_bit result i ≡ false
         → (at : ℕ) × (first ≤ at) × (at < first + len) × (has_bit word (i + at) ≡ true) }
 {
+    lanes & !gathered(word, first, len)
+}
+
+// Returns the positions from which the word has a bit at some of the `len` offsets from `first` on.
+#[inline(always)]
+fn gathered(word: u128, first: u32, len: u32) -> u128
+    requires first { first < 128 }
+    requires some { 0 < len }
+    requires few { len ≤ 64 }
+    ensures some { (i : ℕ) → has_bit result i ≡ true → (at : ℕ) × (first ≤ at) × (at < first + len) × (has_bit word (i + at) ≡ true) }
+    ensures all { (i at : ℕ) → first ≤ at → at < first + len → has_bit word (i + at) ≡ true → has_bit result i ≡ true }
+{
     let mut seen = word >> first;
     let mut done = 1;
     while done < len {
@@ -80,5 +86,54 @@ pub fn without(lanes: u128, word: u128, first: u32, len: u32) -> u128
         seen |= seen >> step;
         done += step;
     }
-    lanes & !seen
+    seen
+}
+
+/// Returns offsets below `len`, as bits: all at which some lane sees a bit of the word, and others at which a lane that is missing would.
+#[inline(always)]
+pub fn offsets_seen(lanes: u128, word: u128, len: u32) -> u64
+    requires few { lanes < 2 ^ 64 }
+    requires some { 0 < len }
+    requires within { len ≤ 64 }
+    ensures below { (at : ℕ) → has_bit result at ≡ true → at < len }
+    ensures all { (i at : ℕ) → at < len → has_bit lanes i ≡ true → has_bit word (i + at) ≡ true → has_bit result at ≡ true }
+{
+    let last = 128 - lanes.leading_zeros();
+    let seen = gathered(word, 0, last.max(1));
+    seen_at(u128::from(mask_below(len)), seen, 0) as u64
+}
+
+/// Clears the bits from `first` to `past` (exclusive).
+#[inline(always)]
+pub fn cleared(bits: u64, first: u32, past: u32) -> u64
+    requires some { first < past }
+    requires within { past ≤ 64 }
+    ensures { (p : ℕ) → has_bit result p ≡ (has_bit bits p && not (nat_le first p && nat_lt p past)) }
+{
+    let before = (1 << first) - 1;
+    bits & (before | !mask_below(past))
+}
+
+// Returns the word with the bits below `past`.
+#[inline(always)]
+fn mask_below(past: u32) -> u64
+    requires some { 0 < past }
+    requires within { past ≤ 64 }
+    ensures { (p : ℕ) → has_bit result p ≡ nat_lt p past }
+{
+    u64::MAX >> (64 - past)
+}
+
+/// Returns the position of the first bit from `at` on, or 64.
+#[inline(always)]
+pub fn first_from(bits: u64, at: u32) -> u32
+    requires { at ≤ 64 }
+    ensures later { at ≤ result }
+    ensures none { (p : ℕ) → at ≤ p → p < result → has_bit bits p ≡ false }
+    ensures some { result < 64 → has_bit bits result ≡ true }
+{
+    if at == 64 || bits >> at == 0 {
+        return 64;
+    }
+    at + (bits >> at).trailing_zeros()
 }

@@ -1,17 +1,16 @@
 //! Covers: strips by which all lanes are dropped at many distances at once.
 
-ghost use Rattle.std.specs.Prelude.{◌≡◌, ◌+◌, ◌-◌, ◌*◌, ◌<◌, ◌≤◌, ◌^◌, ℕ, true, List, All, OnOk, IfOk, length};
+ghost use Rattle.std.specs.Prelude.{◌≡◌, ◌+◌, ◌-◌, ◌<◌, ◌≤◌, ◌^◌, ℕ, true, false, List, All, OnOk, IfOk, length};
 ghost use Rattle.precedence.specs.declared.lanes.covering.TheConstants.{COVERS};
 ghost use Rattle.precedence.specs.declared.lanes.strips.Cover.{Cover};
 ghost use Rattle.precedence.specs.declared.lanes.strips.Strips.{Strips};
 ghost use Rattle.precedence.specs.inner.lanes.Bits.{has_bit};
-ghost use Rattle.precedence.specs.inner.lanes.Windows.{AreCovers, Drops, IsCover, MayDrop, MeetsAny};
+ghost use Rattle.precedence.specs.inner.lanes.Windows.{AreCovers, AreUncovered, Drops, IsCover, MayDrop, MeetsAny};
 ghost use Rattle.precedence.specs.inner.Rows.{is_in_rows};
 
 use crate::cones::cone_table::ConeTable;
-use crate::lanes::benches::start_near;
-use crate::lanes::bits::seen_at;
-use crate::lanes::dropping::{drop_by_strip, drop_by_strips};
+use crate::lanes::bits::{cleared, seen_at};
+use crate::lanes::dropping::{MOST, drop_by_rows, drop_by_strips, row_reached};
 use crate::lanes::strip::Strip;
 use crate::lanes::strips::{Cover, Strips};
 use std::alloc::AllocError;
@@ -20,44 +19,49 @@ use std::cell::Cell;
 /// The largest number of covers that are kept.
 pub const COVERS: usize = 6;
 
-/// Returns a distance up to which (exclusive) a cover applies: at each distance from `distance` on, all lanes see a block between.
-pub fn all_covered_until(covers: &[Cover], tables: &[ConeTable], distance: u64) -> u64
-    requires { distance < 10 ^ 15 }
-    ensures { (lanes i d : ℕ) (by_table : List Strips) → length by_table ≡ length tables.now → All (IsCover lanes by_table) covers.now
-        → has_bit lanes i ≡ true → distance ≤ d → d < result → MeetsAny tables.now by_table d i }
+/// Clears bits of a strip's offsets at which a cover applies: all lanes see a block between. Bit k is the distance `start` + k.
+#[inline(always)]
+pub fn uncovered(offsets: u64, strip: &Strip, covers: &[Cover], tables: &[ConeTable]) -> u64
+    ensures { AreUncovered tables.now covers.now strip.now.start offsets result }
 {
+    let mut rest = offsets;
     for cover in covers {
+        if rest == 0 {
+            return 0;
+        }
         if cover.table < tables.len() {
-            let until = covered_until(cover, &tables[cover.table], distance);
-            if until > distance {
-                return until;
-            }
+            rest = uncovered_by(rest, strip, cover, &tables[cover.table]);
         }
     }
-    distance
+    rest
 }
 
-// Returns a distance up to which (exclusive) one cover applies, from `distance` on.
+// Clears bits of a strip's offsets at which one cover applies.
 #[inline(always)]
-fn covered_until(cover: &Cover, table: &ConeTable, distance: u64) -> u64
-    requires { distance < 10 ^ 15 }
-    ensures { (d : ℕ) → distance ≤ d → d < result
-        → (e : ℕ) × (cover.now.first ≤ e) × (e < cover.now.past) × (e ≤ d) × (is_in_rows 0 table.now.rows.items (d - e) ≡ true) }
+fn uncovered_by(offsets: u64, strip: &Strip, cover: &Cover, table: &ConeTable) -> u64
+    ensures among { (k : ℕ) → has_bit result k ≡ true → has_bit offsets k ≡ true }
+    ensures covered { (k : ℕ) → has_bit offsets k ≡ true → has_bit result k ≡ false
+        → (e : ℕ) × (cover.now.first ≤ e) × (e < cover.now.past) × (e ≤ strip.now.start + k) × (is_in_rows 0 table.now.rows.items (strip.now.start + k - e) ≡ true) }
 {
-    if cover.first >= cover.past || distance < cover.first {
-        return distance;
+    let target = strip.start.saturating_sub(cover.first.saturating_add(MOST)) + 1;
+    let number = row_reached(table, target, cover.row.get());
+    cover.row.set(number);
+    if cover.first >= cover.past || number >= table.rows.len() {
+        return offsets;
     }
-    let most = distance - cover.first;
-    let least = distance.saturating_sub(cover.past - 1);
-    let row = start_near(table.past.as_slice(), table.benches.as_slice(), least + 1);
-    if row < table.rows.len() && table.rows[row].first <= most {
-        table.rows[row].past + cover.past - 1
+    let row = table.rows[number];
+    let first = (row.first + cover.first).max(strip.start) - strip.start;
+    let past = (row.past + cover.past - 1)
+        .min(strip.start + u64::from(strip.len))
+        .saturating_sub(strip.start);
+    if first < past {
+        cleared(offsets, first as u32, past as u32)
     } else {
-        distance
+        offsets
     }
 }
 
-/// Drops lanes that see a block between in a cover's strip.
+/// Drops lanes that see a block between in a cover's strip, from the row on that `uncovered` found for the distance's strip.
 pub fn drop_by_covers(
     lanes: u128,
     covers: &[Cover],
@@ -98,7 +102,12 @@ fn drop_by_cover(
         return lanes;
     }
     let strip = &strips.strips[cover.strip];
-    drop_by_strip(lanes, strip, &tables[cover.table], distance)
+    if distance < strip.start {
+        return lanes;
+    }
+    let table = &tables[cover.table];
+    let row = cover.row.get().min(table.rows.len());
+    drop_by_rows(lanes, strip, table, distance - strip.start, row)
 }
 
 /// Drops the lanes of `there` that see a block between, and keeps covers of the strips that drop some: distances at which all `lanes` see
@@ -147,6 +156,7 @@ fn cover_of(lanes: u128, strip: &Strip, table: usize, number: usize) -> Cover
         strip: number,
         first: strip.start + u64::from(first),
         past: strip.start + u64::from(past),
+        row: Cell::new(0),
     }
 }
 

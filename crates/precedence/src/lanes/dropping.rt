@@ -3,7 +3,7 @@
 ghost use Rattle.std.specs.Prelude.{◌≡◌, ◌+◌, ◌-◌, ◌<◌, ◌≤◌, ◌^◌, ◌⊎◌, ℕ, length, slice_index, slice_index_or};
 ghost use Rattle.std.specs.List.Sorted.{IsStrictlyIncreasing};
 ghost use Rattle.precedence.specs.declared.lanes.strip.Strip.{Strip};
-ghost use Rattle.precedence.specs.inner.lanes.Windows.{Drops, Meets, MeetsIn};
+ghost use Rattle.precedence.specs.inner.lanes.Windows.{Drops, MayDrop, Meets, MeetsIn};
 ghost use Rattle.precedence.specs.inner.Rows.{pasts, start_of};
 
 use crate::cones::cone_table::ConeTable;
@@ -11,36 +11,21 @@ use crate::lanes::benches::start_near;
 use crate::lanes::bits::without;
 use crate::lanes::strip::Strip;
 use crate::lanes::strips::Strips;
-use crate::places::start_of::is_last_below;
+use crate::places::start_of::{is_last_below, start_of};
 use std::cell::Cell;
 
-// The largest distance of a strip from its first.
-const MOST: u64 = 63;
+/// The largest distance of a strip from its first.
+pub const MOST: u64 = 63;
 
-/// Drops the lanes that see a block of the strip from which `distance` is in a row of the table.
+/// Drops lanes that see a block of the strip from which a distance is in a row of the table. The distance is `most` from the strip's first.
+/// The rows before `row` are passed over: all such lanes are dropped if these rows end too early.
 #[inline(always)]
-pub fn drop_by_strip(lanes: u128, strip: &Strip, table: &ConeTable, distance: u64) -> u128
-    requires { distance < 10 ^ 15 }
-    ensures { Drops (λ i. (e : ℕ) × Meets strip.now table.now.rows.items distance i e) lanes result }
-{
-    if distance < strip.start {
-        return lanes;
-    }
-    let most = distance - strip.start;
-    let row = start_near(
-        table.past.as_slice(),
-        table.benches.as_slice(),
-        most.saturating_sub(MOST) + 1,
-    );
-    drop_by_rows(lanes, strip, table, most, row)
-}
-
-// Drops the lanes by the rows from `row` on, if the distance is `most` from the strip's first.
-#[inline(always)]
-fn drop_by_rows(lanes: u128, strip: &Strip, table: &ConeTable, most: u64, row: usize) -> u128
+pub fn drop_by_rows(lanes: u128, strip: &Strip, table: &ConeTable, most: u64, row: usize) -> u128
     requires most { most < 10 ^ 15 }
-    requires row { row ≡ start_of (most - 63 + 1) (pasts table.now.rows.items) }
-    ensures { Drops (λ i. (e : ℕ) × Meets strip.now table.now.rows.items (strip.now.start + most) i e) lanes result }
+    requires row { row ≤ length table.now.rows.items }
+    ensures may { MayDrop (λ i. (e : ℕ) × Meets strip.now table.now.rows.items (strip.now.start + most) i e) lanes result }
+    ensures all { row ≤ start_of (most - 63 + 1) (pasts table.now.rows.items)
+        → Drops (λ i. (e : ℕ) × Meets strip.now table.now.rows.items (strip.now.start + most) i e) lanes result }
 {
     let rows = table.rows.as_slice();
     let mut number = row;
@@ -57,8 +42,8 @@ fn drop_by_rows(lanes: u128, strip: &Strip, table: &ConeTable, most: u64, row: u
     rest
 }
 
-/// Drops the lanes that see a block of one of the strips from which `distance` is in a row of the table, and puts the number of a strip
-/// that dropped some into `by`.
+/// Drops the lanes that see a block of one of the strips from which `distance` is in a row of the table. Puts the number of a strip that
+/// dropped some into `by`.
 pub fn drop_by_strips(
     lanes: u128,
     strips: &Strips,
@@ -118,8 +103,5 @@ fn next_strip(strips: &Strips, past: &[u64], k: usize, row: usize, distance: u64
         return starts.len();
     }
     let target = distance.saturating_sub(past[row - 1].saturating_add(MOST - 1));
-    if is_last_below(starts, k, target) {
-        return k + 1;
-    }
-    start_near(starts, strips.benches.as_slice(), target).max(k + 1)
+    start_of(starts, k, target).max(k + 1)
 }

@@ -11,7 +11,6 @@ ghost use Rattle.precedence.specs.inner.Rows.{is_in_rows, start_of};
 use crate::cones::block_cones::BlockCones;
 use crate::cones::cone_rows::Row;
 use crate::cones::cone_table::ConeTable;
-use crate::lanes::benches::add_bench;
 use crate::lanes::bits::{bits_between, joined};
 use crate::lanes::dropping::row_reached;
 use crate::lanes::strip::Strip;
@@ -19,7 +18,7 @@ use crate::lanes::strips::{Sight, Strips};
 use crate::places::start_of::start_of;
 use std::alloc::AllocError;
 
-// The row and the block that were found last: guesses.
+// The row that was found last, and the last block that was seen there: guesses.
 #[derive(Clone, Copy, Debug)]
 struct Near {
     row: usize,
@@ -43,7 +42,8 @@ pub fn look(
     let mut near = Near { row: 0, id };
     let mut at = 0;
     while let Some(strip) = next_strip(cones, table, base, at, &mut near) {
-        add_strip(sight, cones, base, strip)?;
+        let next = add_strip(sight, cones, base, strip)?;
+        near.id = next.saturating_sub(1);
         at = strip.start + u64::from(strip.len);
     }
     Ok(())
@@ -66,7 +66,6 @@ fn clear_strips(strips: &mut Strips)
 {
     strips.strips.clear();
     strips.starts.clear();
-    strips.benches.clear();
 }
 
 // Returns the next distances of a row, from `at` on, at which some lane sees a block.
@@ -121,13 +120,13 @@ fn row_from(table: &ConeTable, at: u64, near: &mut Near) -> Option<Row>
     }
 }
 
-// Appends a strip with the bits of the blocks that the lanes see there.
+// Appends a strip with the bits of the blocks that the lanes see there, and returns the first block after them: a guess.
 fn add_strip(
     sight: &mut Sight,
     cones: &BlockCones<'_>,
     base: u64,
     strip: Strip,
-) -> Result<(), AllocError>
+) -> Result<usize, AllocError>
     requires base { base < CODES }
     requires first { strip.id ≡ start_of (base + strip.start) (scene cones.now).codes }
     requires tables { length sight.old.by_table.items ≡ length (scene cones.now).tables }
@@ -148,7 +147,8 @@ fn add_strip(
         word = joined(word, bits);
         id = next;
     }
-    push_strip(&mut sight.all, with_word(strip, word))
+    push_strip(&mut sight.all, with_word(strip, word))?;
+    Ok(id)
 }
 
 // Returns the bits of the blocks from `id` on that follow one another along x and have the same cone, and the first block after them.
@@ -197,7 +197,6 @@ fn push_strip(strips: &mut Strips, strip: Strip) -> Result<(), AllocError>
     requires { EndBy strip.start strips.old.strips.items }
     ensures { OnOk result (strips.new.strips.items ≡ strips.old.strips.items ++ (strip ∷ [])) }
 {
-    add_bench(&mut strips.benches, strip.start, strips.strips.len())?;
     strips.strips.reserve(1)?;
     strips.starts.push(strip.start)?;
     strips.strips.push(strip)?;

@@ -1,11 +1,12 @@
 //! Computes the blocks that the lanes of a window retain.
 
-ghost use Rattle.std.specs.Prelude.{◌≡◌, ◌+◌, ◌^◌, ◌<◌, [], IfOk, OnOk, length};
-ghost use Rattle.precedence.specs.inner.lanes.Windows.{AreCovers, AreFound, AreFoundBy, Drops, MeetsAny};
+ghost use Rattle.std.specs.Prelude.{◌≡◌, ◌≢◌, ◌+◌, ◌^◌, ◌<◌, ◌++◌, ◌∷◌, [], OnOk, length};
+ghost use Rattle.precedence.specs.declared.lanes.strips.Found.{Found};
+ghost use Rattle.precedence.specs.inner.lanes.Windows.{AreCovers, AreFound, AreFoundBy};
 
 use crate::cones::cone_table::ConeTable;
-use crate::lanes::bits::{seen_at, unseen};
-use crate::lanes::covering::{all_covered_until, drop_by_all, drop_by_covers};
+use crate::lanes::bits::{first_from, offsets_seen, seen_at};
+use crate::lanes::covering::{drop_by_all, drop_by_covers, uncovered};
 use crate::lanes::strips::{Cover, Found, Sight};
 use std::alloc::AllocError;
 use std::cell::Cell;
@@ -31,6 +32,7 @@ pub fn serve(
 }
 
 // Appends the distances that lanes retain of one strip.
+#[inline(always)]
 fn serve_strip(
     found: &mut Vec<Found>,
     covers: &mut Vec<Cover>,
@@ -48,52 +50,41 @@ fn serve_strip(
     ensures found { OnOk result (AreFoundBy tables.now sight.now lanes (number + 1) found.new.items) }
 {
     let strip = sight.all.strips[number];
-    let past = strip.start + u64::from(strip.len);
-    let mut distance = strip.start;
-    while distance < past {
-        let at = (distance - strip.start) as u32;
+    let by_table = sight.by_table.as_slice();
+    let seen = offsets_seen(lanes, strip.word, strip.len);
+    let mut offsets = uncovered(seen, &strip, covers.as_slice(), tables);
+    let mut at = first_from(offsets, 0);
+    while at < strip.len {
+        let distance = strip.start + u64::from(at);
         let there = seen_at(lanes, strip.word, at);
-        if there == 0 {
-            distance += u64::from(unseen(lanes, strip.word, at).max(1));
-            continue;
-        }
-        let until = all_covered_until(covers.as_slice(), tables, distance);
-        if until > distance {
-            distance = until;
-            continue;
-        }
-        let rest = retained(covers, tables, sight, lanes, there, distance)?;
+        let rest = drop_by_covers(there, covers.as_slice(), tables, by_table, distance);
         if rest != 0 {
-            found.push(Found {
-                distance,
-                lanes: rest as u64,
-                near: Cell::new(strip.id),
-            })?;
+            let kept = drop_by_all(rest, lanes, covers, tables, by_table, distance)?;
+            add_found(found, distance, kept, strip.id)?;
+            offsets = uncovered(offsets, &strip, covers.as_slice(), tables);
         }
-        distance += 1;
+        at = first_from(offsets, at + 1);
     }
     Ok(())
 }
 
-// Returns the lanes of `there` that see no block between.
-fn retained(
-    covers: &mut Vec<Cover>,
-    tables: &[ConeTable],
-    sight: &Sight,
-    lanes: u128,
-    there: u128,
+// Appends what lanes retain at a distance, if some lane does.
+fn add_found(
+    found: &mut Vec<Found>,
     distance: u64,
-) -> Result<u128, AllocError>
-    requires distance { distance < 10 ^ 15 }
-    requires each { length sight.now.by_table.items ≡ length tables.now }
-    requires covers { AreCovers lanes sight.now.by_table.items covers.old.items }
-    ensures covers { OnOk result (AreCovers lanes sight.now.by_table.items covers.new.items) }
-    ensures drops { IfOk result (λ rest. Drops (MeetsAny tables.now sight.now.by_table.items distance) there rest) }
+    lanes: u128,
+    near: u32,
+) -> Result<(), AllocError>
+    requires few { lanes < 2 ^ 64 }
+    ensures some { OnOk result (lanes ≢ 0 → (f : Found) × (f.distance ≡ distance) × (f.lanes ≡ lanes) × (found.new.items ≡ found.old.items ++ f ∷ [])) }
+    ensures none { OnOk result (lanes ≡ 0 → found.new.items ≡ found.old.items) }
 {
-    let by_table = sight.by_table.as_slice();
-    let rest = drop_by_covers(there, covers.as_slice(), tables, by_table, distance);
-    if rest == 0 {
-        return Ok(0);
+    if lanes != 0 {
+        found.push(Found {
+            distance,
+            lanes: lanes as u64,
+            near: Cell::new(near),
+        })?;
     }
-    drop_by_all(rest, lanes, covers, tables, by_table, distance)
+    Ok(())
 }

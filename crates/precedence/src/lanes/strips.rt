@@ -11,8 +11,6 @@ use std::cell::Cell;
 pub struct Strips {
     pub strips: Vec<Strip>,
     pub starts: Vec<u64>,
-    /// The first strip of each bench: a guess.
-    pub benches: Vec<usize>,
     pub ghost each: { starts.items ≡ map (λ s. s.start) strips.items },
     pub ghost apart: { AreApart strips.items },
 }
@@ -25,12 +23,14 @@ pub struct Sight {
 }
 
 /// Distances of a strip, from `first` to `past` (exclusive), at which all lanes see a block whose cone has the table.
-#[derive(Clone, Copy, Debug)]
+#[derive(Debug, Drop)]
 pub struct Cover {
     pub table: usize,
     pub strip: usize,
     pub first: u64,
     pub past: u64,
+    /// The first row that can reach the strip that was tried last: a guess.
+    pub row: Cell<usize>,
     pub ghost small: { past ≤ 10 ^ 15 },
 }
 

@@ -51,11 +51,11 @@ fn no_strips(alloc: Global) -> Strips {
     Strips {
         strips: Vec::new(alloc),
         starts: Vec::new(alloc),
-        benches: Vec::new(alloc),
     }
 }
 
-/// Appends ranges that represent the block's reduced list. The window of its cone is replaced if the block is no lane of it.
+/// Appends the block's reduced list as ranges; the last range may be lengthened. The window of its cone is replaced if the block is no
+/// lane of it.
 pub fn add_retained(
     ranges: &mut Vec<IdRange>,
     windows: &mut Windows,
@@ -140,7 +140,7 @@ fn blocks_seen(strips: &[Strip]) -> usize {
     blocks
 }
 
-// Appends ranges that represent the reduced list of a block that is a lane of the window.
+// Appends the reduced list of a block that is a lane of the window.
 fn add_lane(
     ranges: &mut Vec<IdRange>,
     cones: &BlockCones<'_>,

@@ -110,9 +110,9 @@ impl LazyPreds {
         )
     }
 
-    /// Appends ranges that represent the block's reduced list: a predecessor is dropped if it is also a predecessor of another of the
-    /// block's predecessors. Stores results for the blocks after it in its row. The lists stay unchanged. Fails only if memory is
-    /// refused; then ranges that represent a part of the reduced list may be appended.
+    /// Appends the block's reduced list as ranges; the last range may be lengthened. A predecessor is dropped if it is also a predecessor
+    /// of another of the block's predecessors. Stores results for the blocks after it in its row. The lists stay unchanged. Fails only if
+    /// memory is refused; then a part of the reduced list may be appended.
     #[tactic(auto, using(crate::proofs::AllLists::lazy_length))]
     pub fn add_retained(&mut self, ranges: &mut Vec<IdRange>, block: u32) -> Result<(), AllocError>
         requires block { block < length self.old }

@@ -16,8 +16,8 @@ pub trait MadeLists {
     fn count(&self) -> usize
         ensures { result ≡ length (lists self.now) };
 
-    /// Appends ranges that represent the list of a block, which has fewer than 2^63 identifiers. The lists stay unchanged. If memory is
-    /// refused, ranges that represent a part of the list may be appended.
+    /// Appends the list of a block, which has fewer than 2^63 identifiers, as ranges; the last range may be lengthened. The lists stay
+    /// unchanged. If memory is refused, a part of the list may be appended.
     fn add_ranges(&mut self, ranges: &mut Vec<IdRange>, id: u32) -> Result<(), AllocError>
         requires { id < length (lists self.old) }
         ensures list { OnOk result (ids_of ranges.new.items

@@ -1,6 +1,6 @@
 -- What the lanes of a window see and retain. A window has 64 codes from `base` on; lane i is the block with the code base + i, if its
 -- cone is the window's, with the rows `own`.
-use Rattle.std.specs.Prelude.{◌≡◌, ℕ, ◌+◌, ◌-◌, ◌<◌, ◌≤◌, ◌^◌, Bool, true, List, All, Contains, length, map, slice_get, slice_index, slice_index_or, ◌⊎◌}
+use Rattle.std.specs.Prelude.{◌≡◌, ℕ, ◌+◌, ◌-◌, ◌<◌, ◌≤◌, ◌^◌, Bool, true, false, List, All, Contains, length, map, slice_get, slice_index, slice_index_or, ◌⊎◌}
 use Rattle.std.specs.List.Sorted.{IsStrictlyIncreasing}
 use Rattle.precedence.specs.inner.lanes.Bits.{has_bit}
 use Rattle.precedence.specs.inner.Rows.{is_in_rows}
@@ -74,6 +74,12 @@ pub record AreCovers (lanes : ℕ) (by_table : List Strips) (covers : List Cover
   pub all : All (IsCover lanes by_table) covers
   pub few : length covers ≤ COVERS
 
+-- bits of offsets from the distance `start` on are cleared only if all lanes see a block between, for any lanes that have these covers
+pub record AreUncovered (tables : List ConeTable) (covers : List Cover) (start offsets rest : ℕ) : Type 0 where
+  pub among : (k : ℕ) → has_bit rest k ≡ true → has_bit offsets k ≡ true
+  pub covered : (lanes i k : ℕ) (by_table : List Strips) → length by_table ≡ length tables → All (IsCover lanes by_table) covers
+      → has_bit lanes i ≡ true → has_bit offsets k ≡ true → has_bit rest k ≡ false → MeetsAny tables by_table (start + k) i
+
 -- the lane is among the lanes found at a distance
 abbrev pub IsFoundFor : List Found → (i distance : ℕ) → Type 0
 IsFoundFor found i distance =
@@ -84,6 +90,12 @@ pub record IsRetained (tables : List ConeTable) (sight : Sight) (lanes i distanc
   pub lane : has_bit lanes i ≡ true
   pub seen : (k : ℕ) × (k < length sight.all.strips.items) × ((s : Strip) → SeesAt (slice_index_or sight.all.strips.items k s) i distance)
   pub alone : MeetsAny tables sight.by_table.items distance i → ⊥
+
+-- at each offset of the strip that is not in `offsets`, each lane that sees a block has another one between
+abbrev pub HasOffsets : List ConeTable → List Strips → (lanes : ℕ) → Strip → (offsets : ℕ) → Type 0
+HasOffsets tables by_table lanes strip offsets =
+    (i k : ℕ) → k < strip.len → has_bit lanes i ≡ true → has_bit strip.word (i + k) ≡ true → has_bit offsets k ≡ false
+    → MeetsAny tables by_table (strip.start + k) i
 
 -- what lanes retain at the distances below `upto`, in order
 pub record AreFound (tables : List ConeTable) (sight : Sight) (lanes upto : ℕ) (found : List Found) : Type 0 where

@@ -1,15 +1,16 @@
-use Rattle.std.proofs.Common.{◌≡◌, ◌-◌, ◌^◌, ◌≤◌, ap, ◌∙◌, arith, pow_mono}
-use Rattle.std.proofs.lemmas.Nat.{pow_pos}
+use Rattle.std.proofs.Common.{◌≡◌, ◌-◌, ◌*◌, ◌%◌, ◌^◌, ap, ◌∙◌, arith}
 use Rattle.precedence.specs.inner.lanes.Bits.{has_bit}
-use Rattle.precedence.proofs.bits.Words.{has_bit_mask}
+use Rattle.precedence.proofs.bits.Words.{has_bit_mask, moved_mask}
 use Rattle.precedence.proofs.lanes.bits.bits_between.Goals as goal
 
-pub overflow_sub-result : goal.overflow_sub-result
-overflow_sub-result c =
-    let up : 2 ^ c.args.first ≤ 2 ^ c.args.past = pow_mono c.requires.in_order in
-    omega (arith, c.bits_below.ensures, c.bits_below-2.ensures)
+pub returns-then-first-past : goal.returns-then-first-past
+returns-then-first-past c = λ p.
+    let same : 2 ^ c.args.first ≡ 2 ^ c.args.past = ap (λ n. 2 ^ n) c.if-first-past.true in
+    let none : 0 ≡ 2 ^ c.args.past - 2 ^ c.args.first = omega (arith, same) in
+    ap (λ word. has_bit word p) none ∙ has_bit_mask c.args.first c.args.past p c.requires.in_order
 
 pub returns : goal.returns
 returns c = λ p.
-    let is : c.bits_below.result - c.bits_below-2.result ≡ 2 ^ c.args.past - 2 ^ c.args.first = omega (arith, c.bits_below.ensures, c.bits_below-2.ensures, pow_pos c.args.first) in
-    ap (λ word. has_bit word p) is ∙ has_bit_mask c.args.first c.args.past p c.requires.in_order
+    ap (λ mask. has_bit (mask * 2 ^ c.args.first % 2 ^ 128) p) c.bits_below.ensures
+    ∙ ap (λ word. has_bit word p) (moved_mask c.args.first c.args.past c.requires.in_order c.requires.within)
+    ∙ has_bit_mask c.args.first c.args.past p c.requires.in_order

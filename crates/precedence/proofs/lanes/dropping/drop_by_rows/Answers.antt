@@ -1,11 +1,10 @@
 use Rattle.std.proofs.Common.{◌≡◌, ◌+◌, ◌-◌, ◌^◌, ◌<◌, ◌≤◌, length, get_or, min, sym, ap, subst, ◌∙◌, arith}
 use Rattle.precedence.specs.declared.cones.cone_rows.Row.{Row}
 use Rattle.precedence.specs.inner.lanes.Windows.{Drops}
-use Rattle.precedence.specs.inner.Rows.{pasts, LieApart}
-use Rattle.precedence.proofs.bits.Dropping.{drops_first, drops_next, drops_none, drops_so, drops_some}
+use Rattle.precedence.specs.inner.Rows.{LieApart}
+use Rattle.precedence.proofs.bits.Dropping.{drops_first, drops_next, drops_none, drops_so, drops_some, may_so}
 use Rattle.precedence.proofs.bits.RowsMet.{MeetsRow, row_met, met_row, none_met, meets_of_met, met_of_meets}
-use Rattle.precedence.proofs.ranges.RowOfCode.{long, row_is, some_codes}
-use Rattle.precedence.proofs.ranges.Starts.{start_within}
+use Rattle.precedence.proofs.ranges.RowOfCode.{row_is, some_codes}
 use Rattle.precedence.proofs.lanes.dropping.drop_by_rows.Goals.{then-first-past, else-first-past}
 use Rattle.precedence.proofs.lanes.dropping.drop_by_rows.Goals as goal
 
@@ -14,7 +13,7 @@ loop-number-init c =
     let rows = c.args.table.now.rows.items in
     record {
       from = omega arith;
-      within = omega (arith, start_within (c.args.most - 63 + 1) (pasts rows), long rows, ap length c.as_slice-rows.ensures.value);
+      within = omega (arith, c.requires.row, ap length c.as_slice-rows.ensures.value);
       drops = drops_first (MeetsRow c.args.strip.now rows c.args.most) c.args.row c.args.lanes;
     }
 
@@ -62,8 +61,15 @@ loop-number-preserved c =
       ]);
     }
 
-pub returns-else-rows-number : goal.returns-else-rows-number
-returns-else-rows-number c =
+pub returns-else-rows-number-clause-may : goal.returns-else-rows-number-clause-may
+returns-else-rows-number-clause-may c =
+    let lt : c.loop-number.number < length c.args.table.now.rows.items = omega (arith, c.loop-number-test.true, ap length c.as_slice-rows.ensures.value) in
+    may_so
+    (λ i met. meets_of_met c.args.strip.now c.args.table.now.rows.items c.args.most c.args.row c.loop-number.number i (omega arith) met)
+    c.loop-number.invariant.drops.may
+
+pub returns-else-rows-number-clause-all : goal.returns-else-rows-number-clause-all
+returns-else-rows-number-clause-all c = λ low.
     let strip = c.args.strip.now in
     let rows = c.args.table.now.rows.items in
     let number = c.loop-number.number in
@@ -72,12 +78,18 @@ returns-else-rows-number c =
     let at : row ≡ get_or rows number row = c.index-rows-number.is ∙ ap (λ rs. get_or rs number row) c.as_slice-rows.ensures.value in
     drops_so
     (λ i met. meets_of_met strip rows c.args.most c.args.row number i (omega arith) met)
-    (λ i meets. met_of_meets strip rows c.args.most (10 ^ 15) c.args.row number i meets.0 c.args.table.now.in_order c.requires.row
+    (λ i meets. met_of_meets strip rows c.args.most (10 ^ 15) c.args.row number i meets.0 c.args.table.now.in_order low
     (λ _ d. rw (row_is rows number row lt at d) (omega (arith, c.if-rows-number.false, ap (λ (r : Row). r.first) c.index-rows-number.is))) meets.1)
     c.loop-number.invariant.drops
 
-pub returns-after-loop-number : goal.returns-after-loop-number
-returns-after-loop-number c =
+pub returns-after-loop-number-clause-may : goal.returns-after-loop-number-clause-may
+returns-after-loop-number-clause-may c = may_so
+    (λ i met. meets_of_met c.args.strip.now c.args.table.now.rows.items c.args.most c.args.row c.loop-number.number i
+    (omega (arith, ap length c.as_slice-rows.ensures.value, c.loop-number.invariant.within)) met)
+    c.loop-number.invariant.drops.may
+
+pub returns-after-loop-number-clause-all : goal.returns-after-loop-number-clause-all
+returns-after-loop-number-clause-all c = λ low.
     let strip = c.args.strip.now in
     let rows = c.args.table.now.rows.items in
     let number = c.loop-number.number in
@@ -85,6 +97,6 @@ returns-after-loop-number c =
     let ended : length rows ≤ number = omega (arith, same, c.loop-number-test.false) in
     drops_so
     (λ i met. meets_of_met strip rows c.args.most c.args.row number i (omega (arith, same, c.loop-number.invariant.within)) met)
-    (λ i meets. met_of_meets strip rows c.args.most (10 ^ 15) c.args.row number i meets.0 c.args.table.now.in_order c.requires.row
+    (λ i meets. met_of_meets strip rows c.args.most (10 ^ 15) c.args.row number i meets.0 c.args.table.now.in_order low
     (λ lt d. absurd (omega arith)) meets.1)
     c.loop-number.invariant.drops

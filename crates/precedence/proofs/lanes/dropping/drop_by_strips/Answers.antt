@@ -25,7 +25,8 @@ loop-k-preserved-then-rows-row c =
     let start : get_or starts k 0 ≡ strip.start =
     start_at strips starts c.as_slice-starts.ensures.value k strip lt ∙ ap (λ (s : Strip). s.start) (sym c.index.ensures) in
     let total : strip.start + (distance - get_or starts k 0) ≡ distance = omega (arith, start, c.if-starts-k.true) in
-    let dropped = subst (λ d. Drops (λ i. (e : ℕ) × Meets strip rows d i e) c.loop-k.rest c.drop_by_rows-now.result) total c.drop_by_rows-now.ensures in
+    let row_is = c.row_reached-row.ensures ∙ ap (λ n. start_of (n + 1) (pasts rows)) c.saturating_sub.ensures in
+    let dropped = subst (λ d. Drops (λ i. (e : ℕ) × Meets strip rows d i e) c.loop-k.rest c.drop_by_rows-now.result) total (c.drop_by_rows-now.ensures.all (omega (arith, row_is))) in
     drops_next (MeetsAt strips.strips.items rows distance) 0 k (omega arith) c.loop-k.invariant (drops_so
     (λ i meets. meets_at strips.strips.items rows distance k i strip lt c.index.ensures meets)
     (λ i meets. at_meets strips.strips.items rows distance k i strip lt c.index.ensures meets)

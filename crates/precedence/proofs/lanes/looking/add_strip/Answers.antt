@@ -3,7 +3,6 @@ use Rattle.std.proofs.lemmas.Bool.{cases_eq}
 use Rattle.std.proofs.lemmas.List.{get_or-set_other, get_or-set_same, get_or_read, length-set}
 use Rattle.precedence.specs.inner.lanes.Windows.{any_block, of_table, scene}
 use Rattle.precedence.specs.inner.lanes.Looking.{HasBlocks, IsGrown, IsJoined}
-use Rattle.std.proofs.lemmas.Result.{on_ok_weaker}
 use Rattle.precedence.specs.declared.lanes.strip.Strip.{Strip}
 use Rattle.precedence.specs.declared.lanes.strips.Strips.{Strips}
 use Rattle.precedence.specs.inner.Between.{codes_in}
@@ -104,8 +103,8 @@ returns-clause-added c =
     let old = c.loop-id.sight in
     let new = c.push_strip.new.strips in
     let grown = grown_push old.all.strips.items s b any_block from (length (codes_in b)) strip c.with_word.ensures.like blocks in
-    on_ok_weaker c.push_strip.result
-    (λ (pushed : new.strips.items ≡ old.all.strips.items ++ s ∷ []). record {
+    let pushed : new.strips.items ≡ old.all.strips.items ++ s ∷ [] = c.in_ok-push_strip.ensures in
+    record {
       all = subst (λ (xs : List Strip). IsGrown (scene b) any_block from (length (codes_in b)) strip xs new.strips.items) had.same
           (rw pushed grown);
       by_table = record {
@@ -113,5 +112,4 @@ returns-clause-added c =
         each = λ n d lt. grown_past b (of_table (scene b) n) from strip (get_or first.by_table.items n d).strips.items id (length (codes_in b))
             (get_or old.by_table.items n d).strips.items (too_far b (of_table (scene b) n) from (strip.len + 63) id far) (had.by_table.each n d lt);
       };
-    })
-    c.push_strip.ensures
+    }

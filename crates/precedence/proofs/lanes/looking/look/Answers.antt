@@ -17,7 +17,7 @@ loop-strip-preserved c =
     let strip = c.in-Some.strip in
     let new = c.add_strip.new.sight in
     let own = c.args.table.now.rows.items in
-    let more = sees_more c.args.cones.now own base c.loop-strip.at strip c.in-Some.ensures.next c.loop-strip.sight new c.in_ok-add_strip.ensures.added
+    let more = sees_more c.args.cones.now own base c.loop-strip.at strip c.in-Some.ensures.next c.loop-strip.sight new c.in_ok-next.ensures.added
     c.loop-strip.invariant.sees in
     record {
       small = let small = strip.small in omega (arith, small, c.from.ensures);

@@ -1,13 +1,13 @@
-use Rattle.std.proofs.Common.{◌-◌, ◌≤◌, min}
-use Rattle.precedence.specs.inner.lanes.Windows.{AreCovers, AreFound}
+use Rattle.std.proofs.Common.{◌+◌, ◌-◌, min}
+use Rattle.precedence.specs.inner.lanes.Windows.{AreCovers, AreFound, HasOffsets}
 use Rattle.precedence.proofs.lanes.serving.serve_strip.Given as goal
 
-abbrev pub invariant-loop-distance : goal.invariant-loop-distance
-invariant-loop-distance l = record {
-  low : l.strip.start ≤ l.distance;
+abbrev pub invariant-loop-at : goal.invariant-loop-at
+invariant-loop-at l = record {
   covers : AreCovers l.lanes l.sight.by_table.items l.covers.items;
-  found : AreFound l.tables l.sight l.lanes (min l.distance l.past) l.found.items;
+  found : AreFound l.tables l.sight l.lanes (l.strip.start + min l.at l.strip.len) l.found.items;
+  offsets : HasOffsets l.tables l.sight.by_table.items l.lanes l.strip l.offsets;
 }
 
-abbrev pub decreases-loop-distance : goal.decreases-loop-distance
-decreases-loop-distance l = l.past - l.distance
+abbrev pub decreases-loop-at : goal.decreases-loop-at
+decreases-loop-at l = l.strip.len - l.at

@@ -1,6 +1,6 @@
 use Rattle.std.proofs.Common.{◌≤◌, ◌-◌}
 use Rattle.precedence.proofs.bits.Gathered.{Gathers}
-use Rattle.precedence.proofs.lanes.bits.without.Given as goal
+use Rattle.precedence.proofs.lanes.bits.gathered.Given as goal
 
 abbrev pub invariant-loop-done : goal.invariant-loop-done
 invariant-loop-done l = record {
