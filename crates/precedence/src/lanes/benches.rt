@@ -56,8 +56,8 @@ pub fn benches_of(alloc: Global, distances: &[u64]) -> Result<Vec<usize>, AllocE
     Ok(benches)
 }
 
-/// Stores `number` as the start of the bench of this distance, and of each earlier bench without distances, unless a start is stored.
-pub fn add_bench(benches: &mut Vec<usize>, distance: u64, number: usize) -> Result<(), AllocError> {
+// Stores `number` as the start of the bench of this distance, and of each earlier bench without distances, unless a start is stored.
+fn add_bench(benches: &mut Vec<usize>, distance: u64, number: usize) -> Result<(), AllocError> {
     let bench = (distance / (BENCH / 2) + 1) / 2;
     while (benches.len() as u64) <= bench {
         benches.push(number)?;
